@@ -1,0 +1,5 @@
+pub mod Lowest
+pub mod Pigeonhole
+pub mod Algebra
+pub mod Cyclics
+pub mod Products

@@ -1,0 +1,3 @@
+pub mod Bytewise
+pub mod Cut
+pub mod Parsed

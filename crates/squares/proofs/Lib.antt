@@ -1,0 +1,3 @@
+pub mod Teams
+pub mod Rounds
+pub mod Lines

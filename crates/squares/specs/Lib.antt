@@ -1,0 +1,3 @@
+pub mod Cells
+pub mod Squares
+pub mod Cards
