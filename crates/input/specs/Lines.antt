@@ -1,8 +1,10 @@
--- The first line of an input. Assumes nothing.
+-- The lines of an input. Assumes nothing.
 --     Ends c                      the byte c ends a line: it is a line feed
 --     FirstLine bytes w rest      w is the first line of the bytes, and the rest stands after its line feed
 --     NoLine bytes                no line ends in the bytes
+--     LastLine bytes w            the bytes are the line w alone, with or without its line feed
 use mathlib.Core.List.{List, [], _∷_, _++_}
+use mathlib.Core.Logic.{_⊎_}
 use mathlib.Core.Path.{_≡_, refl}
 use Prim.Native.Nat.{ℕ}
 use Rattle.std.specs.shelf.Lists.{All}
@@ -16,6 +18,10 @@ NoLine bytes = All (λ c. Ends c → ⊥) bytes
 
 pub record FirstLine (bytes w rest : List ℕ) : Type 0 where
   pub whole : bytes ≡ w ++ (0x0a ∷ rest)
+  pub unbroken : NoLine w
+
+pub record LastLine (bytes w : List ℕ) : Type 0 where
+  pub alone : (bytes ≡ w) ⊎ (bytes ≡ w ++ (0x0a ∷ []))
   pub unbroken : NoLine w
 
 -- an example: the line 7 before the line 1

@@ -4,6 +4,8 @@ pub mod lines;
 pub mod numbers;
 mod numeral;
 pub mod orders;
+pub mod products;
+pub mod source;
 
 #[cfg(test)]
 mod tests {

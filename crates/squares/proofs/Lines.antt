@@ -58,7 +58,7 @@ three-behind xs ys m a b c e h =
     ∙ sym (append-assoc xs (a ∷ (b ∷ (c ∷ []))) (drop 3 ys))
 
 module _ (g : Table) (ps : List Pair) (u : ℕ) where
-  length-lines : (r k : ℕ) → length (lines g ps u r k) ≡ 3 * k
+  pub length-lines : (r k : ℕ) → length (lines g ps u r k) ≡ 3 * k
   length-lines r zero = refl
   length-lines r (suc k) = omega (arith, length-lines (r + 1) k)
 

@@ -5,7 +5,6 @@
 --     lines g ps u r k          the lines of the k rounds from r on
 --     card g ps u               the lines of all rounds
 --     Line g ps u r a v o       what a line says: in round r the team plays at venue v and nowhere else, against o, at table a
---     WrittenList g bs ps       ps is the written list of the strong starter that the bytes bs list
 --     CardWritten g bs u ..     what a card call writes
 --     CardRefused g bs u ..     the first question of a card call that is answered no
 --     Carded g bs u ..          what a card call answers, and what the caller's place holds before and after it
@@ -22,9 +21,9 @@ use Rattle.std.specs.declared.result.Result.{Result}
 use Rattle.groups.specs.Numbers.{OnlyOne, lowest}
 use Rattle.groups.specs.Tables.{Table, cyclic}
 use Rattle.groups.specs.declared.refusal.Refusal.the-variants.{Team, Place}
-use Rattle.starters.specs.Claims.{Refused, fault}
-use Rattle.starters.specs.Pairs.{at, paired, SamePairs}
-use Rattle.starters.specs.Starters.{Strong, Written}
+use Rattle.starters.specs.Claims.{WrittenList, Refused, fault}
+use Rattle.starters.specs.Pairs.{at, paired}
+use Rattle.starters.specs.Starters.{Strong}
 use Rattle.starters.specs.declared.fault.Fault.{Fault}
 use Rattle.starters.specs.declared.pair.Pair.{Pair}
 use Rattle.squares.specs.Cells.{Cells, lower-first, plays, opponent}
@@ -55,12 +54,6 @@ module _ (g : Table) (ps : List Pair) where
     pub against : (other ≤ g .order) × (other ≢ u)
     pub at-table : ((table ≡ 0) × ((u ≡ g .order) ⊎ (other ≡ g .order)))
         ⊎ ((k : ℕ) × (k < length ps) × (table ≡ k + 1) × (venue-of g r (at ps k) ≡ venue) × (teams-of g r (at ps k) ≡ lower-first u other))
-
-pub record WrittenList (g : Table) (bs : List ℕ) (ps : List Pair) : Type 0 where
-  pub size : length bs + 1 ≡ g .order
-  pub same : SamePairs (paired bs) ps
-  pub written : Written ps
-  pub strong : Strong g ps
 
 pub record CardWritten (g : Table) (bs : List ℕ) (u : ℕ) (before after : List ℕ) (long : ℕ) : Type 0 where
   pub starter : List Pair

@@ -23,6 +23,12 @@ alike-both p q r (inl x) (inr y) = inr (sym x ∙ y)
 alike-both p q r (inr x) (inl y) = inr (ap flipped (sym x ∙ y))
 alike-both p q r (inr x) (inr y) = inl (ap flipped (sym x ∙ y))
 
+pub alike-trans : (p q r : Pair) → Alike p q → Alike q r → Alike p r
+alike-trans p q r (inl x) (inl y) = inl (x ∙ y)
+alike-trans p q r (inl x) (inr y) = inr (x ∙ y)
+alike-trans p q r (inr x) (inl y) = inr (x ∙ ap flipped y)
+alike-trans p q r (inr x) (inr y) = inl (x ∙ ap flipped y)
+
 -- a list whose pairs are listed in another is no longer than that
 pub no-longer : (ps qs : List Pair) → NoTwins ps → ((k : ℕ) → k < length ps → Listed qs (at ps k)) → length ps ≤ length qs
 no-longer ps qs apart listed =

@@ -15,12 +15,14 @@ use Rattle.std.specs.declared.result.Result.the-variants.{Ok, Err}
 use Rattle.std.proofs.shelf.Tests.{false≢true}
 use Rattle.groups.specs.Tables.{Table, Laws}
 use Rattle.groups.specs.declared.refusal.Refusal.the-variants.{Numbers, Differences, Sums}
-use Rattle.starters.specs.Claims.{OutOfPlace, NumbersRight, Found, DifferencesRight, SumsRight, fault, Accepted, Refused, Claimed}
+use Rattle.starters.specs.Claims.{OutOfPlace, NumbersRight, Found, DifferencesRight, SumsRight, fault, WrittenList, Refused, Claimed}
 use Rattle.starters.specs.Claims.Refused.{by-length, by-numbers, by-differences, by-sums}
-use Rattle.starters.specs.Pairs.{paired, numbers, differences, sums, SamePairs, pairs-of}
+use Rattle.starters.specs.Pairs.{paired, numbers, differences, sums, SamePairs}
 use Rattle.starters.specs.Starters.{IsPair, Strong, Written}
 use Rattle.starters.specs.declared.fault.Fault.{Fault}
+use Rattle.starters.specs.declared.pair.Pair.{Pair}
 use Rattle.starters.specs.declared.starter.Starter.{Starter}
+use Rattle.starters.proofs.Onlys.{written-only}
 use Rattle.starters.proofs.Places.{length-paired, length-both, length-sums, sums-at, numbers-paired}
 use Rattle.starters.proofs.Strongs.{strong-from, strong-again, pairs-from, differences-within, numbers-right, differences-right, sums-right}
 
@@ -71,18 +73,25 @@ module _ (g : Table) (l : Laws g) (bs : List ℕ) (size : length bs + 1 ≡ g .o
         (record { nonzero = λ k x. s .nonzero k (omega arith); below = sums-below r; different = s .different }))
       (j, h, refl, o)
 
-  pub accepted : (s : Starter) → NumbersRight (g .order) bs → NumbersRight (g .order) (differences g (paired bs)) → NumbersRight (g .order) (sums g (paired bs))
-      → SamePairs (paired bs) (pairs-of s) → length (pairs-of s) ≡ length (paired bs) → Written (pairs-of s) → Accepted g bs s
-  accepted s r d t same long w =
+  pub accepted : (ps : List Pair) → NumbersRight (g .order) bs → NumbersRight (g .order) (differences g (paired bs)) → NumbersRight (g .order) (sums g (paired bs))
+      → SamePairs (paired bs) ps → length ps ≡ length (paired bs) → Written ps → WrittenList g bs ps
+  accepted ps r d t same long w =
       let m = length-sums g (paired bs) in
       let half = length-paired bs in
       let twice = even in
       let strong = strong-from g l (paired bs) (omega arith) (right-pairs r) (d .different)
         (record { nonzero = λ k h. t .nonzero k (omega arith); different = t .different }) in
-      record { size = size; strong = strong; same = same; written = w; written-strong = strong-again g l (paired bs) (pairs-of s) strong same long }
+      record {
+        size = size;
+        listed-strong = strong;
+        same = same;
+        written = w;
+        strong = strong-again g l (paired bs) ps strong same long;
+        only = λ qs v also. written-only (paired bs) qs ps v w also same;
+      }
 
 -- a refused claim is no strong starter
-refused-weak : (g : Table) (l : Laws g) (bs : List ℕ) (f : Fault) → Refused g bs f → (length bs + 1 ≡ g .order) × Strong g (paired bs) → ⊥
+pub refused-weak : (g : Table) (l : Laws g) (bs : List ℕ) (f : Fault) → Refused g bs f → (length bs + 1 ≡ g .order) × Strong g (paired bs) → ⊥
 refused-weak g l bs f (by-length e ne) s = ne (s .0)
 refused-weak g l bs f (by-numbers k e size no-right at) s =
     no-right (subst (NumbersRight (g .order)) (listed g l bs size) (numbers-right g l (paired bs) (s .1)))
@@ -91,5 +100,5 @@ refused-weak g l bs f (by-sums k e size r d no-right at) s = no-right (sums-righ
 
 pub decided : (g : Table) (l : Laws g) (bs : List ℕ) (r : Result Starter Fault) → Claimed g bs r
     → Decides (isOk r) ((length bs + 1 ≡ g .order) × Strong g (paired bs))
-decided g l bs (Ok s) a = ((λ _. (a .size, a .strong)), (λ _. refl))
+decided g l bs (Ok s) a = ((λ _. (a .size, a .listed-strong)), (λ _. refl))
 decided g l bs (Err f) a = ((λ e. absurd (false≢true e)), (λ s. absurd (refused-weak g l bs f a s)))

@@ -1,5 +1,6 @@
 pub mod Places
 pub mod Alikes
+pub mod Onlys
 pub mod Strongs
 pub mod Marks
 pub mod Writing

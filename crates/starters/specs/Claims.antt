@@ -6,7 +6,7 @@
 --     DifferencesRight g ps    all differences of the pairs, in both directions, are different
 --     SumsRight g ps           all sums of the pairs are nonzero and different
 --     fault q k                the refusal q with the pair k, where it names one
---     Accepted g bs s          the bytes list a strong starter, and s is its written list
+--     WrittenList g bs ps      the bytes list a strong starter, and ps is its one written list
 --     Refused g bs f           the first question that is answered no, and a pair at fault
 --     Claimed g bs r           what a claim answers
 use mathlib.Core.List.{List}
@@ -54,12 +54,13 @@ pub record SumsRight (g : Table) (ps : List Pair) : Type 0 where
 abbrev pub fault : Refusal → Option ℕ → Fault
 fault q k = record { refusal = q; pair = k }
 
-pub record Accepted (g : Table) (bs : List ℕ) (s : Starter) : Type 0 where
+pub record WrittenList (g : Table) (bs : List ℕ) (ps : List Pair) : Type 0 where
   pub size : length bs + 1 ≡ g .order
-  pub strong : Strong g (paired bs)
-  pub same : SamePairs (paired bs) (pairs-of s)
-  pub written : Written (pairs-of s)
-  pub written-strong : Strong g (pairs-of s)
+  pub listed-strong : Strong g (paired bs)
+  pub same : SamePairs (paired bs) ps
+  pub written : Written ps
+  pub strong : Strong g ps
+  pub only : (qs : List Pair) → Written qs → SamePairs (paired bs) qs → qs ≡ ps
 
 pub data Refused (g : Table) (bs : List ℕ) (f : Fault) : Type 0 where
   by-length : f ≡ fault Length None → (length bs + 1 ≢ g .order) → Refused g bs f
@@ -71,4 +72,4 @@ pub data Refused (g : Table) (bs : List ℕ) (f : Fault) : Type 0 where
       → DifferencesRight g (paired bs) → (SumsRight g (paired bs) → ⊥) → AtFault (g .order) (sums g (paired bs)) 1 k → Refused g bs f
 
 abbrev pub Claimed : Table → List ℕ → Result Starter Fault → Type 0
-Claimed g bs r = Cases r (Accepted g bs) (Refused g bs)
+Claimed g bs r = Cases r (λ s. WrittenList g bs (pairs-of s)) (Refused g bs)

@@ -15,7 +15,7 @@ use Rattle.squares.proofs.card.card.Needs as need
 pub returns-in-Break-starter : need.returns-in-Break-starter
 returns-in-Break-starter g c =
     let p = err-from-errBy (c .from-residual .result) (c .from-residual .ensures .1) in
-    rw (p .1, p .2) (refl, by-claim (c .in-Break-starter .ensures tt .claimed))
+    rw (p .1, p .2) (refl {a = c .args .place .now}, by-claim (c .in-Break-starter .ensures tt .claimed))
 
 pub loop-round-holds : need.loop-round-holds
 loop-round-holds g c = no-round (g .G·Group .table (c .args .group .now)) (pairs-of (c .in-Continue-starter .starter)) (c .args .team) (c .args .place .now)
@@ -27,7 +27,7 @@ loop-round-again g c =
     let made = c .in-Continue-starter .ensures tt .claimed in
     let e = c .entry-of-entry .result in
     let n = c .order-n .ensures in
-    one-round-more t (pairs-of (c .in-Continue-starter .starter)) (c .args .team) (c .args .place .now) l (made .written-strong)
+    one-round-more t (pairs-of (c .in-Continue-starter .starter)) (c .args .team) (c .args .place .now) l (made .strong)
     (c .loop-round .round) (omega (arith, c .loop-round-test .taken)) (c .loop-round .place) (e .table) (e .venue) (e .opponent)
     (c .loop-round .inv) (c .loop-round .kept .place) (omega (arith, c .if-place-length .left)) (c .entry-of-entry .ensures)
 
@@ -43,7 +43,7 @@ returns g c =
     let so = subst (λ (r : ℕ). CardSoFar t ps u (c .args .place .now) r (c .loop-round .place)) last (c .loop-round .inv) in
     record {
       starter = ps;
-      listed = record { size = made .size; same = made .same; written = made .written; strong = made .written-strong };
+      listed = made;
       team = omega (arith, c .if-team-n .left);
       size = ap (λ (k : ℕ). 3 * k) n;
       room = omega (arith, c .if-place-length .left);

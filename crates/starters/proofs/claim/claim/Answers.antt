@@ -5,7 +5,7 @@ use lib.ListN.{length}
 use Rattle.std.specs.declared.result.Result.the-variants.{Ok, Err}
 use Rattle.groups.specs.Tables.{difference}
 use Rattle.starters.specs.Claims.{NumbersRight}
-use Rattle.starters.specs.Pairs.{paired}
+use Rattle.starters.specs.Pairs.{paired, pairs-of}
 use Rattle.starters.proofs.Claiming.{refused-numbers, refused-differences, refused-sums, accepted, decided}
 use Rattle.starters.proofs.Places.{length-both, length-sums, length-paired}
 use Rattle.starters.proofs.claim.claim.Needs as need
@@ -74,6 +74,6 @@ returns g c =
     let bs = c .args .bytes .now in
     let size = c .if-bytes-n .left ∙ c .order-n .ensures in
     let list = c .written-list in
-    let a = accepted t l bs size (list .result) (c .in-rest .ensures tt) (c .in-rest-wrong-difference .ensures tt) (c .in-rest-wrong-sum .ensures tt)
+    let a = accepted t l bs size (pairs-of (list .result)) (c .in-rest .ensures tt) (c .in-rest-wrong-difference .ensures tt) (c .in-rest-wrong-sum .ensures tt)
       (list .ensures .same) (list .ensures .long) (list .ensures .written) in
     record { claimed = a; strong = decided t l bs (Ok (list .result)) a }
