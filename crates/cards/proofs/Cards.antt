@@ -50,10 +50,10 @@ module _ (g : Table) (bs start : List ℕ) where
         starter = ps;
         listed = so .listed;
         whole =
-          ap (λ (xs : List ℕ). xs ++ cards-text g ps (u + 1) k) (e ∙ ap (λ (xs : List ℕ). text ++ card-text u xs) bytes)
-          ∙ append-assoc text (card-text u (card g ps u)) (cards-text g ps (u + 1) k)
-          ∙ ap (λ (xs : List ℕ). text ++ xs) (sym more)
-          ∙ so .whole;
+            ap (λ (xs : List ℕ). xs ++ cards-text g ps (u + 1) k) (e ∙ ap (λ (xs : List ℕ). text ++ card-text u xs) bytes)
+            ∙ append-assoc text (card-text u (card g ps u)) (cards-text g ps (u + 1) k)
+            ∙ ap (λ (xs : List ℕ). text ++ xs) (sym more)
+            ∙ so .whole;
       }
 
   -- the card of a team of a strong starter is not refused where the place is long enough
@@ -70,10 +70,10 @@ module _ (g : Table) (bs start : List ℕ) where
       let left : g .order + 1 - (g .order + 1) ≡ 0 = omega arith in
       let none : cards-text g ps (g .order + 1) (g .order + 1 - (g .order + 1)) ≡ [] = ap (cards-text g ps (g .order + 1)) left in
       let done : text ≡ start ++ cards-text g ps 0 (g .order + 1) =
-        sym (append-nil text) ∙ ap (λ (xs : List ℕ). text ++ xs) (sym none) ∙ so .whole in
+      sym (append-nil text) ∙ ap (λ (xs : List ℕ). text ++ xs) (sym none) ∙ so .whole in
       carded ps (so .listed)
       (e ∙ ap (λ (xs : List ℕ). xs ++ summary-line (g .order) letter) done
-        ∙ append-assoc start (cards-text g ps 0 (g .order + 1)) (summary-line (g .order) letter))
+      ∙ append-assoc start (cards-text g ps 0 (g .order + 1)) (summary-line (g .order) letter))
 
 -- the group of the orders o is made: g is its table under another name
 pub by-made : (o o′ : Orders) (g : Table) (bs before after : List ℕ) → o ≡ o′ → Made o′ → g ≡ table-of o′

@@ -27,5 +27,5 @@ module _ (input first rest : List ℕ) (o : Orders) (bs : List ℕ) (f : FirstLi
   pub no-numbers : (second : List ℕ) → LastLine rest second → numbers-of second ≡ None → ⊥
   no-numbers second l e =
       let same : t .second ≡ second =
-        last-line-once rest (t .second) second (subst (λ (xs : List ℕ). LastLine xs (t .second)) (same-first .1) (t .last-line)) l in
+      last-line-once rest (t .second) second (subst (λ (xs : List ℕ). LastLine xs (t .second)) (same-first .1) (t .last-line)) l in
       none-some (numbers-of second) bs e (ap numbers-of (sym same) ∙ t .numbers)

@@ -21,9 +21,9 @@ rounds-more r bs h =
     let m : ℕ = 3 * r in
     let e1 : drop m bs ≡ getD bs m 0 ∷ drop (m + 1) bs = drop-more bs m 0 (omega arith) in
     let e2 : drop (m + 1) bs ≡ getD bs (m + 1) 0 ∷ drop (m + 2) bs =
-      drop-more bs (m + 1) 0 (omega arith) ∙ ap (λ (k : ℕ). getD bs (m + 1) 0 ∷ drop k bs) (omega arith) in
+    drop-more bs (m + 1) 0 (omega arith) ∙ ap (λ (k : ℕ). getD bs (m + 1) 0 ∷ drop k bs) (omega arith) in
     let e3 : drop (m + 2) bs ≡ getD bs (m + 2) 0 ∷ drop (3 * (r + 1)) bs =
-      drop-more bs (m + 2) 0 (omega arith) ∙ ap (λ (k : ℕ). getD bs (m + 2) 0 ∷ drop k bs) (omega arith) in
+    drop-more bs (m + 2) 0 (omega arith) ∙ ap (λ (k : ℕ). getD bs (m + 2) 0 ∷ drop k bs) (omega arith) in
     ap (rounds r) (e1 ∙ ap (λ (xs : List ℕ). getD bs m 0 ∷ xs) (e2 ∙ ap (λ (xs : List ℕ). getD bs (m + 1) 0 ∷ xs) e3))
 
 -- a round that is written, with the rounds to come

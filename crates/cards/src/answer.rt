@@ -8,7 +8,6 @@ ghost use Rattle.std.specs.Options.{Cases as BySome};
 ghost use Rattle.std.specs.Vec.{made};
 ghost use Rattle.cards.specs.Answers.{Answer, ByGroup, ByOrders, Typed};
 ghost use Rattle.input.specs.declared.orders.Orders.{Orders as Typed-orders};
-
 use crate::lines::push_card;
 use crate::lines::push_refused;
 use crate::lines::push_summary;

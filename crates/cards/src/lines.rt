@@ -4,7 +4,6 @@ ghost use mathlib.Core.Path.{_≡_};
 ghost use Rattle.std.specs.Of.String.{string-bytes};
 ghost use Rattle.std.specs.Vec.{made};
 ghost use Rattle.cards.specs.Texts.{card-text, refused-line, round-line, summary-line, team-line, usage-line};
-
 use groups::refusal::Refusal;
 use std::fmt;
 use std::fmt::Write;
@@ -13,7 +12,10 @@ use std::fmt::Write;
 pub fn push_usage(text: &mut String) -> fmt::Result
     ensures { λ r. ⌜ made r (λ _. string-bytes (now (text .exit)) ≡ string-bytes (now (text .entry)) ++ usage-line) ⌝ }
 {
-    write!(text, "EXPECTED orders joined by x, then the starter's numbers separated by blanks, as 7 and 1 3 2 6 4 5 on two lines\n")
+    write!(
+        text,
+        "EXPECTED orders joined by x, then the starter's numbers separated by blanks, as 7 and 1 3 2 6 4 5 on two lines\n"
+    )
 }
 
 // A refusal, with the pair that it names.
@@ -36,7 +38,10 @@ fn push_team(text: &mut String, team: u8) -> fmt::Result
 fn push_round(text: &mut String, round: usize, table: u8, venue: u8, opponent: u8) -> fmt::Result
     ensures { λ r. ⌜ made r (λ _. string-bytes (now (text .exit)) ≡ string-bytes (now (text .entry)) ++ round-line round table venue opponent) ⌝ }
 {
-    write!(text, "ROUND {round} TABLE {table} VENUE {venue} OPPONENT {opponent}\n")
+    write!(
+        text,
+        "ROUND {round} TABLE {table} VENUE {venue} OPPONENT {opponent}\n"
+    )
 }
 
 // The card of a team: its head, and a line for each round.
@@ -45,7 +50,13 @@ pub fn push_card(text: &mut String, team: u8, card: &[u8]) -> fmt::Result
 {
     push_team(text, team)?;
     for round in 0..card.len() / 3 {
-        push_round(text, round, card[3 * round], card[3 * round + 1], card[3 * round + 2])?;
+        push_round(
+            text,
+            round,
+            card[3 * round],
+            card[3 * round + 1],
+            card[3 * round + 2],
+        )?;
     }
     Ok(())
 }
@@ -58,5 +69,8 @@ pub fn push_summary(text: &mut String, side: u8, letter: u8) -> fmt::Result
     let cards = n + 1;
     let meetings = n * (n + 1) / 2;
     let kind = char::from(letter);
-    write!(text, "CARDS {cards} SIDE {n} KIND {kind} MEETINGS {meetings}\n")
+    write!(
+        text,
+        "CARDS {cards} SIDE {n} KIND {kind} MEETINGS {meetings}\n"
+    )
 }

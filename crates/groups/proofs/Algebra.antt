@@ -33,9 +33,9 @@ module _ (g : Table) (l : Laws g) where
   cancel-left a b c x y z e =
       let o = l .has-opposite a x in
       let back : (d : ℕ) → d < g .order → g .add (o .0) (g .add a d) ≡ d = λ d h.
-        sym (l .associative (o .0) a d (o .1) x h)
-        ∙ ap (λ (s : ℕ). g .add s d) (l .commutative (o .0) a (o .1) x ∙ o .2)
-        ∙ l .neutral d h in
+      sym (l .associative (o .0) a d (o .1) x h)
+      ∙ ap (λ (s : ℕ). g .add s d) (l .commutative (o .0) a (o .1) x ∙ o .2)
+      ∙ l .neutral d h in
       sym (back b y) ∙ ap (g .add (o .0)) e ∙ back c z
 
   pub cancel-right : (a b c : ℕ) → a < g .order → b < g .order → c < g .order → g .add b a ≡ g .add c a → b ≡ c

@@ -42,22 +42,26 @@ at-most (suc k) (suc m) f w o =
     let g : ℕ → ℕ = turned f m v in
     let last : (i : ℕ) → i < k → f i ≡ v → ⊥ = λ i h e. omega (arith, o i k (omega arith) (omega arith) e) in
     let within : Within g k m = λ i h.
-      elim (cases-eq (f i) m)
-      [ inl e ↦
+    elim (cases-eq (f i) m) [
+      | inl e ↦
           let ne : v ≢ m = λ x. last i h (e ∙ sym x) in
           let le = w k (omega arith) in
           subst (λ (x : ℕ). x < m) (sym (turned-at f m v i e)) (omega arith)
-      | inr n ↦ let le = w i (omega arith) in subst (λ (x : ℕ). x < m) (sym (turned-off f m v i n)) (omega arith) ] in
+      | inr n ↦ let le = w i (omega arith) in subst (λ (x : ℕ). x < m) (sym (turned-off f m v i n)) (omega arith)
+    ] in
     let apart : OneToOne g k = λ i j hi hj e.
-      elim (cases-eq (f i) m)
-      [ inl x ↦
-          elim (cases-eq (f j) m)
-          [ inl y ↦ o i j (omega arith) (omega arith) (x ∙ sym y)
-          | inr y ↦ absurd (last j hj (sym (sym (turned-at f m v i x) ∙ e ∙ turned-off f m v j y))) ]
+    elim (cases-eq (f i) m) [
+      | inl x ↦
+          elim (cases-eq (f j) m) [
+            | inl y ↦ o i j (omega arith) (omega arith) (x ∙ sym y)
+            | inr y ↦ absurd (last j hj (sym (sym (turned-at f m v i x) ∙ e ∙ turned-off f m v j y)))
+          ]
       | inr x ↦
-          elim (cases-eq (f j) m)
-          [ inl y ↦ absurd (last i hi (sym (turned-off f m v i x) ∙ e ∙ turned-at f m v j y))
-          | inr y ↦ o i j (omega arith) (omega arith) (sym (turned-off f m v i x) ∙ e ∙ turned-off f m v j y) ] ] in
+          elim (cases-eq (f j) m) [
+            | inl y ↦ absurd (last i hi (sym (turned-off f m v i x) ∙ e ∙ turned-at f m v j y))
+            | inr y ↦ o i j (omega arith) (omega arith) (sym (turned-off f m v i x) ∙ e ∙ turned-off f m v j y)
+          ]
+    ] in
     omega (arith, at-most k m g within apart)
 
 -- the same where a relation R gives each place a value: places with a common value are one place
@@ -81,43 +85,50 @@ module _ (k m : ℕ) (R : ℕ → ℕ → Type 0) (valued : (i : ℕ) → i < k 
 pub reaches-or-not : (f : ℕ → ℕ) (k v : ℕ) → Reaches f k v ⊎ (Reaches f k v → ⊥)
 reaches-or-not f zero v = inr (λ r. omega (arith, r .1))
 reaches-or-not f (suc k) v =
-    elim (cases-eq (f k) v)
-    [ inl e ↦ inl (k, omega arith, e)
-    | inr n ↦
-        elim (reaches-or-not f k v)
-        [ inl r ↦ inl (r .0, omega (arith, r .1), r .2)
-        | inr no-one ↦ inr (λ r.
-            elim (cases-eq (r .0) k)
-            [ inl last ↦ n (ap f (sym last) ∙ r .2)
-            | inr other ↦ no-one (r .0, omega (arith, r .1), r .2) ]) ] ]
+    elim (cases-eq (f k) v) [
+      | inl e ↦ inl (k, omega arith, e)
+      | inr n ↦
+          elim (reaches-or-not f k v) [
+            | inl r ↦ inl (r .0, omega (arith, r .1), r .2)
+            | inr no-one ↦ inr (λ r.
+                elim (cases-eq (r .0) k) [
+                  | inl last ↦ n (ap f (sym last) ∙ r .2)
+                  | inr other ↦ no-one (r .0, omega (arith, r .1), r .2)
+                ])
+          ]
+    ]
 
 -- k different values below k are all of them
 pub reaches-all : (k : ℕ) (f : ℕ → ℕ) → Within f k k → OneToOne f k → (v : ℕ) → v < k → Reaches f k v
 reaches-all k f w o v h =
-    elim (reaches-or-not f k v)
-    [ inl r ↦ r
-    | inr never ↦
-        -- f with v as one value more
-        let g : ℕ → ℕ = λ i. cond (eqb i k) v (f i) in
-        let new : g k ≡ v = simp (eq-eqb k k refl) in
-        let old : (i : ℕ) → i < k → g i ≡ f i = λ i x. simp (ne-eqb i k (λ e. omega arith)) in
-        let within : Within g (suc k) k = λ i x.
-          elim (cases-eq i k)
-          [ inl e ↦ subst (λ (y : ℕ). y < k) (sym (ap g e ∙ new)) h
-          | inr n ↦ let y : i < k = omega arith in subst (λ (z : ℕ). z < k) (sym (old i y)) (w i y) ] in
-        let apart : OneToOne g (suc k) = λ i j x y e.
-          elim (cases-eq i k)
-          [ inl a ↦
-              elim (cases-eq j k)
-              [ inl b ↦ a ∙ sym b
-              | inr b ↦ let z : j < k = omega arith in absurd (never (j, z, sym (old j z) ∙ sym e ∙ ap g a ∙ new)) ]
-          | inr a ↦
-              let z : i < k = omega arith in
-              elim (cases-eq j k)
-              [ inl b ↦ absurd (never (i, z, sym (old i z) ∙ e ∙ ap g b ∙ new))
-              | inr b ↦ let u : j < k = omega arith in o i j z u (sym (old i z) ∙ e ∙ old j u) ] ] in
-        absurd (omega (arith, at-most (suc k) k g within apart)) ]
-
+    elim (reaches-or-not f k v) [
+      | inl r ↦ r
+      | inr never ↦
+          -- f with v as one value more
+          let g : ℕ → ℕ = λ i. cond (eqb i k) v (f i) in
+          let new : g k ≡ v = simp (eq-eqb k k refl) in
+          let old : (i : ℕ) → i < k → g i ≡ f i = λ i x. simp (ne-eqb i k (λ e. omega arith)) in
+          let within : Within g (suc k) k = λ i x.
+          elim (cases-eq i k) [
+            | inl e ↦ subst (λ (y : ℕ). y < k) (sym (ap g e ∙ new)) h
+            | inr n ↦ let y : i < k = omega arith in subst (λ (z : ℕ). z < k) (sym (old i y)) (w i y)
+          ] in
+          let apart : OneToOne g (suc k) = λ i j x y e.
+          elim (cases-eq i k) [
+            | inl a ↦
+                elim (cases-eq j k) [
+                  | inl b ↦ a ∙ sym b
+                  | inr b ↦ let z : j < k = omega arith in absurd (never (j, z, sym (old j z) ∙ sym e ∙ ap g a ∙ new))
+                ]
+            | inr a ↦
+                let z : i < k = omega arith in
+                elim (cases-eq j k) [
+                  | inl b ↦ absurd (never (i, z, sym (old i z) ∙ e ∙ ap g b ∙ new))
+                  | inr b ↦ let u : j < k = omega arith in o i j z u (sym (old i z) ∙ e ∙ old j u)
+                ]
+          ] in
+          absurd (omega (arith, at-most (suc k) k g within apart))
+    ]
 
 module _ (f : ℕ → ℕ) (k : ℕ) where
   -- the lowest place of a value
@@ -159,9 +170,9 @@ once-each xs m e w d a p h =
     let f : ℕ → ℕ = λ j. getD xs j 0 - 1 in
     let within : Within f m m = λ j x. let y : j < length xs = omega arith in omega (arith, w j y .0, w j y .1) in
     let apart : OneToOne f m = λ i j x y q.
-      let xi : i < length xs = omega arith in
-      let xj : j < length xs = omega arith in
-      d i j xi xj (omega (arith, w i xi .0, w j xj .0)) in
+    let xi : i < length xs = omega arith in
+    let xj : j < length xs = omega arith in
+    d i j xi xj (omega (arith, w i xi .0, w j xj .0)) in
     let r = reaches-all m f within apart (a - 1) (omega arith) in
     let below : r .0 < length xs = omega (arith, r .1) in
     once-at xs a (r .0) below (omega (arith, r .2, w (r .0) below .0)) d
@@ -172,6 +183,6 @@ pub all-different : (xs : List ℕ) (m : ℕ) → length xs ≡ m
 all-different xs m e r i j x y q =
     let f : ℕ → ℕ = λ k. getD xs k 0 - 1 in
     let all : (v : ℕ) → v < m → Reaches f m v = λ v h.
-      let z = r (v + 1) (omega arith) (omega arith) in
-      (z .0, omega (arith, z .1), omega (arith, z .2)) in
+    let z = r (v + 1) (omega arith) (omega arith) in
+    (z .0, omega (arith, z .1), omega (arith, z .2)) in
     one-to-one f m all i j (omega arith) (omega arith) (ap (λ (n : ℕ). n - 1) q)

@@ -34,13 +34,14 @@ module _ (g h : Table) (lg : Laws g) (lh : Laws h) where
   pub parts-opposite : (a p q : ℕ) → a < g .order * h .order → Opposite g (a / h .order) p → Opposite h (a % h .order) q
       → Opposite (parts g h) a (p * h .order + q)
   parts-opposite a p q x op oq =
-      let k : ℕ = h .order in
-      ( digits-lt (op .0) (oq .0)
-      , ap (λ (s : ℕ). g .add (a / k) s * k + h .add (a % k) ((p * k + q) % k)) (digits-div p (oq .0))
-        ∙ ap (λ (s : ℕ). g .add (a / k) p * k + h .add (a % k) s) (digits-mod p (oq .0))
-        ∙ ap (λ (s : ℕ). s * k + h .add (a % k) q) (op .1)
-        ∙ ap (λ (s : ℕ). 0 * k + s) (oq .1)
-        ∙ omega arith )
+      let k : ℕ = h .order in (
+        digits-lt (op .0) (oq .0),
+        ap (λ (s : ℕ). g .add (a / k) s * k + h .add (a % k) ((p * k + q) % k)) (digits-div p (oq .0))
+            ∙ ap (λ (s : ℕ). g .add (a / k) p * k + h .add (a % k) s) (digits-mod p (oq .0))
+            ∙ ap (λ (s : ℕ). s * k + h .add (a % k) q) (op .1)
+            ∙ ap (λ (s : ℕ). 0 * k + s) (oq .1)
+            ∙ omega arith,
+      )
 
   pub parts-laws : g .order * h .order ≤ 127 → Laws (parts g h)
   parts-laws most =
@@ -51,30 +52,30 @@ module _ (g h : Table) (lg : Laws g) (lh : Laws h) where
         odd-order = (odd-mul n k (lg .odd-order .0) (lh .odd-order .0), mul-le 3 1 n k (lg .odd-order .1) some, most);
         closed = λ a b x y. digits-lt (lg .closed (a / k) (b / k) (upper a x) (upper b y)) (lh .closed (a % k) (b % k) (lower a) (lower b));
         commutative = λ a b x y.
-          ap (λ (s : ℕ). s * k + h .add (a % k) (b % k)) (lg .commutative (a / k) (b / k) (upper a x) (upper b y))
-          ∙ ap (λ (s : ℕ). g .add (b / k) (a / k) * k + s) (lh .commutative (a % k) (b % k) (lower a) (lower b));
+            ap (λ (s : ℕ). s * k + h .add (a % k) (b % k)) (lg .commutative (a / k) (b / k) (upper a x) (upper b y))
+            ∙ ap (λ (s : ℕ). g .add (b / k) (a / k) * k + s) (lh .commutative (a % k) (b % k) (lower a) (lower b));
         associative = λ a b c x y z.
-          let first = lh .closed (a % k) (b % k) (lower a) (lower b) in
-          let second = lh .closed (b % k) (c % k) (lower b) (lower c) in
-          let e1 = digits-div (g .add (a / k) (b / k)) first in
-          let e2 = digits-mod (g .add (a / k) (b / k)) first in
-          let e3 = digits-div (g .add (b / k) (c / k)) second in
-          let e4 = digits-mod (g .add (b / k) (c / k)) second in
-          let up = lg .associative (a / k) (b / k) (c / k) (upper a x) (upper b y) (upper c z) in
-          let low = lh .associative (a % k) (b % k) (c % k) (lower a) (lower b) (lower c) in
-          cc;
+            let first = lh .closed (a % k) (b % k) (lower a) (lower b) in
+            let second = lh .closed (b % k) (c % k) (lower b) (lower c) in
+            let e1 = digits-div (g .add (a / k) (b / k)) first in
+            let e2 = digits-mod (g .add (a / k) (b / k)) first in
+            let e3 = digits-div (g .add (b / k) (c / k)) second in
+            let e4 = digits-mod (g .add (b / k) (c / k)) second in
+            let up = lg .associative (a / k) (b / k) (c / k) (upper a x) (upper b y) (upper c z) in
+            let low = lh .associative (a % k) (b % k) (c % k) (lower a) (lower b) (lower c) in
+            cc;
         neutral = λ a x.
-          let up = lg .neutral (a / k) (upper a x) in
-          let low = lh .neutral (a % k) (lower a) in
-          let e1 = div-eq-of-lt some in
-          let e2 = mod-eq-of-lt some in
-          let e3 = div-add-mod' a k in
-          cc;
+            let up = lg .neutral (a / k) (upper a x) in
+            let low = lh .neutral (a % k) (lower a) in
+            let e1 = div-eq-of-lt some in
+            let e2 = mod-eq-of-lt some in
+            let e3 = div-add-mod' a k in
+            cc;
         has-opposite = λ a x.
-          let p = lg .has-opposite (a / k) (upper a x) in
-          let q = lh .has-opposite (a % k) (lower a) in
-          let o = parts-opposite a (p .0) (q .0) x (p .1, p .2) (q .1, q .2) in
-          (p .0 * k + q .0, o .0, o .1);
+            let p = lg .has-opposite (a / k) (upper a x) in
+            let q = lh .has-opposite (a % k) (lower a) in
+            let o = parts-opposite a (p .0) (q .0) x (p .1, p .2) (q .1, q .2) in
+            (p .0 * k + q .0, o .0, o .1);
       }
 
   -- within the bound a product is the table of its parts, past it that of its second group
@@ -86,9 +87,10 @@ module _ (g h : Table) (lg : Laws g) (lh : Laws h) where
 
   pub product-laws : Laws (product g h)
   product-laws =
-      elim (cases-lt 127 (g .order * h .order))
-      [ inl more ↦ subst Laws (sym (product-past more)) lh
-      | inr most ↦ subst Laws (sym (product-within most)) (parts-laws most) ]
+      elim (cases-lt 127 (g .order * h .order)) [
+        | inl more ↦ subst Laws (sym (product-past more)) lh
+        | inr most ↦ subst Laws (sym (product-within most)) (parts-laws most)
+      ]
 
   -- The calls of the two parts put together, as the code has them: m and k are the two orders, A and B the operands
   -- as they count.
@@ -117,11 +119,12 @@ module _ (g h : Table) (lg : Laws g) (lh : Laws h) where
         let c4 = counted-is h (B % h .order) (lower B) in
         let joined : p * k + q ≡ parts g h .add A B = cc in
         let small = parts-laws most .closed A B x y in
-        let all = most in
-        ( omega arith
-        , joined
-          ∙ ap (λ (s : ℕ). parts g h .add s B) oA ∙ ap (λ (s : ℕ). parts g h .add (counted (parts g h) a) s) oB
-          ∙ ap (λ (t : Table). t .add (counted t a) (counted t b)) (sym (product-within most)) )
+        let all = most in (
+          omega arith,
+          joined
+              ∙ ap (λ (s : ℕ). parts g h .add s B) oA ∙ ap (λ (s : ℕ). parts g h .add (counted (parts g h) a) s) oB
+              ∙ ap (λ (t : Table). t .add (counted t a) (counted t b)) (sym (product-within most)),
+        )
 
     pub product-opposite : (a A p q : ℕ) → A ≡ cond (ltb a (m * k)) a 0
         → Opposite g (counted g (A / k)) p → Opposite h (counted h (A % k)) q
@@ -131,10 +134,11 @@ module _ (g h : Table) (lg : Laws g) (lh : Laws h) where
         let c1 : counted g (A / k) ≡ A / h .order = ap (λ (s : ℕ). counted g (A / s)) ek ∙ counted-is g (A / h .order) (upper A x) in
         let c2 : counted h (A % k) ≡ A % h .order = ap (λ (s : ℕ). counted h (A % s)) ek ∙ counted-is h (A % h .order) (lower A) in
         let o : Opposite (parts g h) A (p * k + q) =
-          subst (λ (s : ℕ). Opposite (parts g h) A (p * s + q)) (sym ek)
-          (parts-opposite A p q x (subst (λ (s : ℕ). Opposite g s p) c1 op) (subst (λ (s : ℕ). Opposite h s q) c2 oq)) in
+        subst (λ (s : ℕ). Opposite (parts g h) A (p * s + q)) (sym ek)
+        (parts-opposite A p q x (subst (λ (s : ℕ). Opposite g s p) c1 op) (subst (λ (s : ℕ). Opposite h s q) c2 oq)) in
         let small = o .0 in
-        let all = most in
-        ( omega arith
-        , subst (λ (t : Table). Opposite t (counted t a) (p * k + q)) (sym (product-within most))
-          (subst (λ (s : ℕ). Opposite (parts g h) s (p * k + q)) (operand a A eA) o) )
+        let all = most in (
+          omega arith,
+          subst (λ (t : Table). Opposite t (counted t a) (p * k + q)) (sym (product-within most))
+              (subst (λ (s : ℕ). Opposite (parts g h) s (p * k + q)) (operand a A eA) o),
+        )

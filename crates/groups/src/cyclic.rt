@@ -4,7 +4,6 @@ ghost use Prim.Native.Nat.{ℕ, _+_, _-_, _%_, _<_, _≤_};
 ghost use Rattle.std.specs.Results.{Cases};
 ghost use Rattle.groups.specs.Tables.{OddOrder, cyclic};
 ghost use Rattle.groups.specs.declared.refusal.Refusal.the-variants.{Order};
-
 use crate::group::Group;
 use crate::group::count;
 use crate::refusal::Refusal;

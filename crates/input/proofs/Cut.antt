@@ -47,19 +47,23 @@ ended bytes w e n = record { whole = e; unbroken = n }
 
 pub last-line-once : (bytes w w′ : List ℕ) → LastLine bytes w → LastLine bytes w′ → w ≡ w′
 last-line-once bytes w w′ l l′ =
-    elim (l .alone)
-    [ inl e ↦
-        elim (l′ .alone)
-        [ inl e′ ↦ sym e ∙ e′
-        | inr e′ ↦ absurd (no-first-line bytes w′ [] (subst NoLine (sym e) (l .unbroken)) (ended bytes w′ e′ (l′ .unbroken))) ]
-    | inr e ↦
-        elim (l′ .alone)
-        [ inl e′ ↦ absurd (no-first-line bytes w [] (subst NoLine (sym e′) (l′ .unbroken)) (ended bytes w e (l .unbroken)))
-        | inr e′ ↦ first-line-once bytes w w′ [] [] (ended bytes w e (l .unbroken)) (ended bytes w′ e′ (l′ .unbroken)) .0 ] ]
+    elim (l .alone) [
+      | inl e ↦
+          elim (l′ .alone) [
+            | inl e′ ↦ sym e ∙ e′
+            | inr e′ ↦ absurd (no-first-line bytes w′ [] (subst NoLine (sym e) (l .unbroken)) (ended bytes w′ e′ (l′ .unbroken)))
+          ]
+      | inr e ↦
+          elim (l′ .alone) [
+            | inl e′ ↦ absurd (no-first-line bytes w [] (subst NoLine (sym e′) (l′ .unbroken)) (ended bytes w e (l .unbroken)))
+            | inr e′ ↦ first-line-once bytes w w′ [] [] (ended bytes w e (l .unbroken)) (ended bytes w′ e′ (l′ .unbroken)) .0
+          ]
+    ]
 
 -- more after the first line is no last line
 pub no-last-line : (bytes w line rest : List ℕ) → FirstLine bytes line rest → (rest ≡ [] → ⊥) → LastLine bytes w → ⊥
 no-last-line bytes w line rest f more l =
-    elim (l .alone)
-    [ inl e ↦ no-first-line bytes line rest (subst NoLine (sym e) (l .unbroken)) f
-    | inr e ↦ more (first-line-once bytes line w rest [] f (ended bytes w e (l .unbroken)) .1) ]
+    elim (l .alone) [
+      | inl e ↦ no-first-line bytes line rest (subst NoLine (sym e) (l .unbroken)) f
+      | inr e ↦ more (first-line-once bytes line w rest [] f (ended bytes w e (l .unbroken)) .1)
+    ]

@@ -4,7 +4,6 @@ ghost use Rattle.std.specs.Results.{Cases};
 ghost use Rattle.groups.specs.declared.refusal.Refusal.the-variants.{Order};
 ghost use Rattle.input.specs.Groups.{Made};
 ghost use Rattle.input.specs.declared.orders.Orders.the-variants.{Two, Three};
-
 use groups::cyclic::Cyclic;
 use groups::cyclic::CyclicGroup;
 use groups::product::Product;
@@ -12,6 +11,7 @@ use groups::product::ProductGroup;
 use groups::refusal::Refusal;
 
 pub type Double = Product<Cyclic, Cyclic>;
+
 pub type Triple = Product<Double, Cyclic>;
 
 // The product of two cyclic groups.

@@ -28,10 +28,11 @@ three-at xs m a b c h =
     let lz = length-set ys (m + 1) b in
     let ne1 : m ≢ m + 1 = λ e. omega arith in
     let ne2 : m ≢ m + 2 = λ e. omega arith in
-    let ne3 : m + 1 ≢ m + 2 = λ e. omega arith in
-    ( getD-set-other zs (m + 2) m c 0 ne2 ∙ getD-set-other ys (m + 1) m b 0 ne1 ∙ getD-set-same xs m a 0 (omega arith)
-    , getD-set-other zs (m + 2) (m + 1) c 0 ne3 ∙ getD-set-same ys (m + 1) b 0 (omega arith)
-    , getD-set-same zs (m + 2) c 0 (omega arith) )
+    let ne3 : m + 1 ≢ m + 2 = λ e. omega arith in (
+      getD-set-other zs (m + 2) m c 0 ne2 ∙ getD-set-other ys (m + 1) m b 0 ne1 ∙ getD-set-same xs m a 0 (omega arith),
+      getD-set-other zs (m + 2) (m + 1) c 0 ne3 ∙ getD-set-same ys (m + 1) b 0 (omega arith),
+      getD-set-same zs (m + 2) c 0 (omega arith),
+    )
 
 three-before : (xs : List ℕ) (m a b c j : ℕ) → j < m → getD (three xs m a b c) j 0 ≡ getD xs j 0
 three-before xs m a b c j h =
@@ -50,7 +51,7 @@ three-behind : (xs ys : List ℕ) (m a b c : ℕ) → length xs ≡ m → 3 ≤ 
     → three (xs ++ ys) m a b c ≡ (xs ++ (a ∷ (b ∷ (c ∷ [])))) ++ drop 3 ys
 three-behind xs ys m a b c e h =
     let at : (k i : ℕ) → i ≡ m + k → (zs : List ℕ) (v : ℕ) → set (xs ++ zs) i v ≡ xs ++ set zs k v = λ k i p zs v.
-      set-append-right xs zs m i v e (omega arith) ∙ ap (λ (j : ℕ). xs ++ set zs j v) (omega arith) in
+    set-append-right xs zs m i v e (omega arith) ∙ ap (λ (j : ℕ). xs ++ set zs j v) (omega arith) in
     ap (λ (zs : List ℕ). set (set zs (m + 1) b) (m + 2) c) (at 0 m (omega arith) ys a)
     ∙ ap (λ (zs : List ℕ). set zs (m + 2) c) (at 1 (m + 1) refl (set ys 0 a) b)
     ∙ at 2 (m + 2) refl (set (set ys 0 a) 1 b) c
@@ -89,23 +90,24 @@ module _ (g : Table) (ps : List Pair) (u : ℕ) (before : List ℕ) where
       let rest = length-drop (3 * r) before in
       let at = three-at now (3 * r) a v o (omega arith) in
       let next : three now (3 * r) a v o ≡ lines g ps u 0 (r + 1) ++ drop (3 * (r + 1)) before =
-        ap (λ (xs : List ℕ). three xs (3 * r) a v o) (so .bytes)
-        ∙ three-behind (lines g ps u 0 r) (drop (3 * r) before) (3 * r) a v o front (omega arith)
-        ∙ ap (λ (xs : List ℕ). (lines g ps u 0 r ++ xs) ++ drop 3 (drop (3 * r) before)) (sym (line-is g l ps s r hr u a v o here))
-        ∙ ap (λ (xs : List ℕ). xs ++ drop 3 (drop (3 * r) before)) (sym (lines-more g ps u r))
-        ∙ ap (λ (xs : List ℕ). lines g ps u 0 (r + 1) ++ xs) (drop-drop 3 (3 * r) before ∙ ap (λ (k : ℕ). drop k before) (omega arith)) in
+      ap (λ (xs : List ℕ). three xs (3 * r) a v o) (so .bytes)
+      ∙ three-behind (lines g ps u 0 r) (drop (3 * r) before) (3 * r) a v o front (omega arith)
+      ∙ ap (λ (xs : List ℕ). (lines g ps u 0 r ++ xs) ++ drop 3 (drop (3 * r) before)) (sym (line-is g l ps s r hr u a v o here))
+      ∙ ap (λ (xs : List ℕ). xs ++ drop 3 (drop (3 * r) before)) (sym (lines-more g ps u r))
+      ∙ ap (λ (xs : List ℕ). lines g ps u 0 (r + 1) ++ xs) (drop-drop 3 (3 * r) before ∙ ap (λ (k : ℕ). drop k before) (omega arith)) in
       record {
         bytes = next;
         says = λ q h.
-          elim (cases-eq q r)
-          [ inl e ↦
-              subst (λ (k : ℕ). Line g ps u k (getD (three now (3 * r) a v o) (3 * k) 0) (getD (three now (3 * r) a v o) (3 * k + 1) 0) (getD (three now (3 * r) a v o) (3 * k + 2) 0)) (sym e)
-              (line-as g l ps s r hr u a v o _ _ _ (at .0) (at .1) (at .2) here)
-          | inr ne ↦
-              let hq : q < g .order = omega arith in
-              line-as g l ps s q hq u _ _ _ _ _ _
-              (three-before now (3 * r) a v o (3 * q) (omega arith))
-              (three-before now (3 * r) a v o (3 * q + 1) (omega arith))
-              (three-before now (3 * r) a v o (3 * q + 2) (omega arith))
-              (so .says q (omega arith)) ];
+            elim (cases-eq q r) [
+              | inl e ↦
+                  subst (λ (k : ℕ). Line g ps u k (getD (three now (3 * r) a v o) (3 * k) 0) (getD (three now (3 * r) a v o) (3 * k + 1) 0) (getD (three now (3 * r) a v o) (3 * k + 2) 0)) (sym e)
+                  (line-as g l ps s r hr u a v o _ _ _ (at .0) (at .1) (at .2) here)
+              | inr ne ↦
+                  let hq : q < g .order = omega arith in
+                  line-as g l ps s q hq u _ _ _ _ _ _
+                  (three-before now (3 * r) a v o (3 * q) (omega arith))
+                  (three-before now (3 * r) a v o (3 * q + 1) (omega arith))
+                  (three-before now (3 * r) a v o (3 * q + 2) (omega arith))
+                  (so .says q (omega arith))
+            ];
       }

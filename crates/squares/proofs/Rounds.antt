@@ -80,32 +80,39 @@ module _ (g : Table) (l : Laws g) (ps : List Pair) (s : Strong g ps) (r : ℕ) (
   plays-where u v t =
       let k : ℕ = place-of g ps r v in
       let rest : Cell = cond (ltb k (length ps)) (teams-of g r (at ps k)) empty in
-      elim (cases-bool (eqb v r))
-      [ inl own ↦
-          let t′ : plays u (meet r (g .order)) ≡ true = sym (ap (plays u) (cond-true (eqb v r) (meet r (g .order)) rest own)) ∙ t in
-          inl ( eqb-true v r own
-              , elim (or-cases (eqb r u) (eqb (g .order) u) t′) [ inl x ↦ inl (eqb-true r u x) | inr x ↦ inr (eqb-true (g .order) u x) ] )
-      | inr other ↦
-          let t′ : plays u rest ≡ true = sym (ap (plays u) (cond-false (eqb v r) (meet r (g .order)) rest other)) ∙ t in
-          elim (cases-bool (ltb k (length ps)))
-          [ inl in-list ↦
-              let h : k < length ps = ltb-true k (length ps) in-list in
-              let t″ : plays u (teams-of g r (at ps k)) ≡ true = sym (ap (plays u) (cond-true (ltb k (length ps)) (teams-of g r (at ps k)) empty in-list)) ∙ t′ in
-              inr ( k
-                  , h
-                  , eqb-true (venue-of g r (at ps k)) v (lowest-passes (λ j. eqb (venue-of g r (at ps j)) v) (length ps) 0 (omega arith))
-                  , plays-either u (g .add (at ps k .first) r) (g .add (at ps k .second) r) t″ )
-          | inr past ↦
-              absurd (false≢true (sym (ap (plays u) (cond-false (ltb k (length ps)) (teams-of g r (at ps k)) empty past)) ∙ t′)) ] ]
+      elim (cases-bool (eqb v r)) [
+        | inl own ↦
+            let t′ : plays u (meet r (g .order)) ≡ true = sym (ap (plays u) (cond-true (eqb v r) (meet r (g .order)) rest own)) ∙ t in
+            inl (
+              eqb-true v r own,
+              elim (or-cases (eqb r u) (eqb (g .order) u) t′) [ inl x ↦ inl (eqb-true r u x) | inr x ↦ inr (eqb-true (g .order) u x) ],
+            )
+        | inr other ↦
+            let t′ : plays u rest ≡ true = sym (ap (plays u) (cond-false (eqb v r) (meet r (g .order)) rest other)) ∙ t in
+            elim (cases-bool (ltb k (length ps))) [
+              | inl in-list ↦
+                  let h : k < length ps = ltb-true k (length ps) in-list in
+                  let t″ : plays u (teams-of g r (at ps k)) ≡ true = sym (ap (plays u) (cond-true (ltb k (length ps)) (teams-of g r (at ps k)) empty in-list)) ∙ t′ in
+                  inr (
+                    k,
+                    h,
+                    eqb-true (venue-of g r (at ps k)) v (lowest-passes (λ j. eqb (venue-of g r (at ps j)) v) (length ps) 0 (omega arith)),
+                    plays-either u (g .add (at ps k .first) r) (g .add (at ps k .second) r) t″,
+                  )
+              | inr past ↦
+                  absurd (false≢true (sym (ap (plays u) (cond-false (ltb k (length ps)) (teams-of g r (at ps k)) empty past)) ∙ t′))
+            ]
+      ]
 
   -- a pair's numbers, moved by r, are teams other than r and the guest
   Moved : ℕ → Pair → Type 0
   Moved u p = (g .add (p .first) r ≡ u) ⊎ (g .add (p .second) r ≡ u)
 
   moved-number : (a : ℕ) → 0 < a → a < g .order → (g .add a r < g .order) × (g .add a r ≢ r)
-  moved-number a nonzero below =
-      ( l .closed a r below hr
-      , λ e. omega (arith, cancel-right g l r a 0 hr below (some g l) (e ∙ sym (l .neutral r hr))) )
+  moved-number a nonzero below = (
+    l .closed a r below hr,
+    λ e. omega (arith, cancel-right g l r a 0 hr below (some g l) (e ∙ sym (l .neutral r hr))),
+  )
 
   moved-team : (k : ℕ) → k < length ps → (u : ℕ) → Moved u (at ps k) → (u < g .order) × (u ≢ r)
   unfolding Moved
@@ -134,12 +141,13 @@ module _ (g : Table) (l : Laws g) (ps : List Pair) (s : Strong g ps) (r : ℕ) (
       record {
         there = (venue-below k h, cell-of-pair k h ∙ teams);
         nowhere-else = λ v hv t.
-          elim (plays-where u v t)
-          [ inl w ↦ elim (w .1) [ inl e ↦ absurd (tu .1 (sym e)) | inr e ↦ absurd (omega (arith, tu .0)) ]
-          | inr w ↦
-              let j : ℕ = w .0 in
-              let same : j ≡ k = one-pair ps (numbers-right g l ps s .different) (difference g u r) j k (w .1) h (moved-from j (w .1) u (w .3)) (moved-from k h u mu) in
-              sym (w .2) ∙ ap (λ (i : ℕ). venue-of g r (at ps i)) same ];
+            elim (plays-where u v t) [
+              | inl w ↦ elim (w .1) [ inl e ↦ absurd (tu .1 (sym e)) | inr e ↦ absurd (omega (arith, tu .0)) ]
+              | inr w ↦
+                  let j : ℕ = w .0 in
+                  let same : j ≡ k = one-pair ps (numbers-right g l ps s .different) (difference g u r) j k (w .1) h (moved-from j (w .1) u (w .3)) (moved-from k h u mu) in
+                  sym (w .2) ∙ ap (λ (i : ℕ). venue-of g r (at ps i)) same
+            ];
         against = (omega (arith, to .0), ne);
         at-table = inr (k, h, refl, refl, teams);
       }
@@ -211,12 +219,13 @@ module _ (g : Table) (l : Laws g) (ps : List Pair) (s : Strong g ps) (r : ℕ) (
   line-by-none u hu never =
       let d : ℕ = difference g u r in
       let own : u ≡ r =
-        elim (cases-eq d 0)
-        [ inl zero ↦ difference-zero g l u r hu hr zero
+      elim (cases-eq d 0) [
+        | inl zero ↦ difference-zero g l u r hu hr zero
         | inr other ↦
             let o = s .starter .each-number-once d (omega arith) (difference-below g l u r hu hr) in
             let b = both-at (λ p. p .first) ps (o .here) (o .below) in
-            absurd (never (o .here / 2) (b .0) (elim (b .1) [ inl e ↦ inl (sym e ∙ o .holds) | inr e ↦ inr (sym e ∙ o .holds) ])) ] in
+            absurd (never (o .here / 2) (b .0) (elim (b .1) [ inl e ↦ inl (sym e ∙ o .holds) | inr e ↦ inr (sym e ∙ o .holds) ]))
+      ] in
       subst (λ (x : ℕ). Line g ps x r 0 r (g .order)) (sym own) line-of-own
 
   -- the same line under other names
@@ -233,24 +242,26 @@ module _ (g : Table) (l : Laws g) (ps : List Pair) (s : Strong g ps) (r : ℕ) (
       let p : ℕ → Bool = λ w. plays u (square g ps r w) in
       let here : p v ≡ true = ap (plays u) (m .there .1) ∙ plays-first u o in
       let found : venue-in n (square g ps) r u ≡ v =
-        lowest-only p n 0 v (omega arith) (omega (arith, m .there .0)) here (λ w t h. m .nowhere-else w (omega arith) t) in
+      lowest-only p n 0 v (omega arith) (omega (arith, m .there .0)) here (λ w t h. m .nowhere-else w (omega arith) t) in
       let other : opponent u (square g ps r v) ≡ o = ap (opponent u) (m .there .1) ∙ opponent-of-first u o (λ e. m .against .1 (sym e)) in
       let table : table-in g ps r v ≡ a =
-        elim (m .at-table)
-        [ inl t ↦
+      elim (m .at-table) [
+        | inl t ↦
             let guest : plays n (square g ps r v) ≡ true =
-              elim (t .1)
-              [ inl e ↦ ap (λ (x : ℕ). plays x (square g ps r v)) (sym e) ∙ here
+            elim (t .1) [
+              | inl e ↦ ap (λ (x : ℕ). plays x (square g ps r v)) (sym e) ∙ here
               | inr e ↦
                   ap (λ (x : ℕ). plays x (square g ps r v)) (sym e) ∙ ap (plays o) (m .there .1 ∙ lower-first-swap u o (λ q. m .against .1 (sym q)))
-                  ∙ plays-first o u ] in
+                  ∙ plays-first o u
+            ] in
             let own : v ≡ r = elim (plays-where n v guest) [ inl w ↦ w .0 | inr w ↦ absurd (omega (arith, moved-team (w .0) (w .1) n (w .3) .0)) ] in
             cond-true (eqb v r) 0 (place-of g ps r v + 1) (eq-eqb v r own) ∙ sym (t .0)
         | inr t ↦
             let k : ℕ = t .0 in
             let other-venue : v ≢ r = λ e. venue-not-own k (t .1) (t .3 ∙ e) in
             let place : place-of g ps r v ≡ k = ap (place-of g ps r) (sym (t .3)) ∙ place-of-pair k (t .1) in
-            cond-false (eqb v r) 0 (place-of g ps r v + 1) (ne-eqb v r other-venue) ∙ ap (λ (x : ℕ). x + 1) place ∙ sym (t .2) ] in
+            cond-false (eqb v r) 0 (place-of g ps r v + 1) (ne-eqb v r other-venue) ∙ ap (λ (x : ℕ). x + 1) place ∙ sym (t .2)
+      ] in
       ap (λ (w : ℕ). table-in g ps r w ∷ (w ∷ (opponent u (square g ps r w) ∷ []))) found
       ∙ ap (λ (x : ℕ). x ∷ (v ∷ (opponent u (square g ps r v) ∷ []))) table
       ∙ ap (λ (x : ℕ). a ∷ (v ∷ (x ∷ []))) other

@@ -16,29 +16,33 @@ lower-first-more a b h = simp (le-ltb a b h)
 
 pub lower-first-swap : (a b : ℕ) → a ≢ b → lower-first a b ≡ lower-first b a
 lower-first-swap a b ne =
-    elim (cases-lt a b)
-    [ inl h ↦ lower-first-less a b h ∙ sym (lower-first-more b a (omega arith))
-    | inr h ↦ lower-first-more a b h ∙ sym (lower-first-less b a (omega arith)) ]
+    elim (cases-lt a b) [
+      | inl h ↦ lower-first-less a b h ∙ sym (lower-first-more b a (omega arith))
+      | inr h ↦ lower-first-more a b h ∙ sym (lower-first-less b a (omega arith))
+    ]
 
 -- the teams of a cell play in it, and no others
 pub plays-first : (a b : ℕ) → plays a (lower-first a b) ≡ true
 plays-first a b =
-    elim (cases-lt a b)
-    [ inl h ↦ ap (plays a) (lower-first-less a b h) ∙ or-left (eqb a a) (eqb b a) (eq-eqb a a refl)
-    | inr h ↦ ap (plays a) (lower-first-more a b h) ∙ or-right (eqb b a) (eqb a a) (eq-eqb a a refl) ]
+    elim (cases-lt a b) [
+      | inl h ↦ ap (plays a) (lower-first-less a b h) ∙ or-left (eqb a a) (eqb b a) (eq-eqb a a refl)
+      | inr h ↦ ap (plays a) (lower-first-more a b h) ∙ or-right (eqb b a) (eqb a a) (eq-eqb a a refl)
+    ]
 
 pub plays-either : (u a b : ℕ) → plays u (lower-first a b) ≡ true → (a ≡ u) ⊎ (b ≡ u)
 plays-either u a b t =
-    elim (cases-lt a b)
-    [ inl h ↦
-        elim (or-cases (eqb a u) (eqb b u) (sym (ap (plays u) (lower-first-less a b h)) ∙ t))
-        [ inl x ↦ inl (eqb-true a u x) | inr x ↦ inr (eqb-true b u x) ]
-    | inr h ↦
-        elim (or-cases (eqb b u) (eqb a u) (sym (ap (plays u) (lower-first-more a b h)) ∙ t))
-        [ inl x ↦ inr (eqb-true b u x) | inr x ↦ inl (eqb-true a u x) ] ]
+    elim (cases-lt a b) [
+      | inl h ↦
+          elim (or-cases (eqb a u) (eqb b u) (sym (ap (plays u) (lower-first-less a b h)) ∙ t))
+          [ inl x ↦ inl (eqb-true a u x) | inr x ↦ inr (eqb-true b u x) ]
+      | inr h ↦
+          elim (or-cases (eqb b u) (eqb a u) (sym (ap (plays u) (lower-first-more a b h)) ∙ t))
+          [ inl x ↦ inr (eqb-true b u x) | inr x ↦ inl (eqb-true a u x) ]
+    ]
 
 pub opponent-of-first : (a b : ℕ) → a ≢ b → opponent a (lower-first a b) ≡ b
 opponent-of-first a b ne =
-    elim (cases-lt a b)
-    [ inl h ↦ ap (opponent a) (lower-first-less a b h) ∙ simp (eq-eqb a a refl)
-    | inr h ↦ ap (opponent a) (lower-first-more a b h) ∙ simp (ne-eqb b a (λ e. ne (sym e))) ]
+    elim (cases-lt a b) [
+      | inl h ↦ ap (opponent a) (lower-first-less a b h) ∙ simp (eq-eqb a a refl)
+      | inr h ↦ ap (opponent a) (lower-first-more a b h) ∙ simp (ne-eqb b a (λ e. ne (sym e)))
+    ]

@@ -1,6 +1,5 @@
 // The movement card of a team.
 ghost use Rattle.squares.specs.Cards.{Carded};
-
 use crate::entry::entry_of;
 use groups::group::Group;
 use groups::refusal::Refusal;

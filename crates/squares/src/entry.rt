@@ -3,7 +3,6 @@ ghost use Prim.Native.Nat.{_<_, _≤_};
 ghost use Rattle.squares.specs.Cards.{Line};
 ghost use Rattle.starters.specs.Pairs.{pairs-of};
 ghost use Rattle.starters.specs.Starters.{Strong};
-
 use groups::group::Group;
 use groups::group::minus;
 use starters::starter::Starter;

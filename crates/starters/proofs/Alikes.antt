@@ -42,24 +42,27 @@ no-twins-from-numbers ps d i j x y e =
     let a = both-first first ps i x in
     let b = both-first first ps j y in
     let c = both-second first ps j y in
-    elim e
-    [ inl z ↦ omega (arith, d (2 * i) (2 * j) (omega arith) (omega arith) (a ∙ ap first z ∙ sym b))
-    | inr z ↦ absurd (omega (arith, d (2 * i) (2 * j + 1) (omega arith) (omega arith) (a ∙ ap first z ∙ sym c))) ]
+    elim e [
+      | inl z ↦ omega (arith, d (2 * i) (2 * j) (omega arith) (omega arith) (a ∙ ap first z ∙ sym b))
+      | inr z ↦ absurd (omega (arith, d (2 * i) (2 * j + 1) (omega arith) (omega arith) (a ∙ ap first z ∙ sym c)))
+    ]
 
 pub no-twins-from-written : (ps : List Pair) → Written ps → NoTwins ps
 no-twins-from-written ps w i j x y e =
     let si = w .smaller-first i x in
     let sj = w .smaller-first j y in
-    elim e
-    [ inl z ↦
-        let f : at ps i .first ≡ at ps j .first = ap (λ (p : Pair). p .first) z in
-        elim (cases-lt i j)
-        [ inl less ↦ absurd (omega (arith, w .rising i j less y))
-        | inr most ↦ elim (cases-eq i j) [ inl same ↦ same | inr other ↦ absurd (omega (arith, w .rising j i (omega arith) x)) ] ]
-    | inr z ↦
-        let f : at ps i .first ≡ at ps j .second = ap (λ (p : Pair). p .first) z in
-        let s : at ps i .second ≡ at ps j .first = ap (λ (p : Pair). p .second) z in
-        absurd (omega arith) ]
+    elim e [
+      | inl z ↦
+          let f : at ps i .first ≡ at ps j .first = ap (λ (p : Pair). p .first) z in
+          elim (cases-lt i j) [
+            | inl less ↦ absurd (omega (arith, w .rising i j less y))
+            | inr most ↦ elim (cases-eq i j) [ inl same ↦ same | inr other ↦ absurd (omega (arith, w .rising j i (omega arith) x)) ]
+          ]
+      | inr z ↦
+          let f : at ps i .first ≡ at ps j .second = ap (λ (p : Pair). p .first) z in
+          let s : at ps i .second ≡ at ps j .first = ap (λ (p : Pair). p .second) z in
+          absurd (omega arith)
+    ]
 
 -- a number of a pair stands at a place of the pair
 pub place-of-number : (ps : List Pair) (a k : ℕ) → k < length ps → Holds a (at ps k)
@@ -67,9 +70,10 @@ pub place-of-number : (ps : List Pair) (a k : ℕ) → k < length ps → Holds a
 place-of-number ps a k h holds =
     let first : Pair → ℕ = λ q. q .first in
     let m = length-both first ps in
-    elim holds
-    [ inl e ↦ (2 * k, omega arith, both-first first ps k h ∙ e, omega arith)
-    | inr e ↦ (2 * k + 1, omega arith, both-second first ps k h ∙ e, omega arith) ]
+    elim holds [
+      | inl e ↦ (2 * k, omega arith, both-first first ps k h ∙ e, omega arith)
+      | inr e ↦ (2 * k + 1, omega arith, both-second first ps k h ∙ e, omega arith)
+    ]
 
 -- a number stands in one pair only
 pub one-pair : (ps : List Pair) → Different (numbers ps) → (a i j : ℕ) → i < length ps → j < length ps
@@ -84,7 +88,7 @@ one-pair ps d a i j x y hi hj =
 pub alike-by-first : (ps : List Pair) → Different (numbers ps) → (p q : Pair) → Listed ps p → Listed ps q → p .first ≡ q .first → Alike p q
 alike-by-first ps d p q lp lq e =
     let holds : (r : Pair) (l : Listed ps r) → Holds (r .first) (at ps (l .0)) = λ r l.
-      elim (l .2) [ inl x ↦ inl (ap (λ (y : Pair). y .first) x) | inr x ↦ inr (ap (λ (y : Pair). y .second) x) ] in
+    elim (l .2) [ inl x ↦ inl (ap (λ (y : Pair). y .first) x) | inr x ↦ inr (ap (λ (y : Pair). y .second) x) ] in
     let one : lp .0 ≡ lq .0 = one-pair ps d (q .first) (lp .0) (lq .0) (lp .1) (lq .1)
-      (subst (λ (a : ℕ). Holds a (at ps (lp .0))) e (holds p lp)) (holds q lq) in
+    (subst (λ (a : ℕ). Holds a (at ps (lp .0))) e (holds p lp)) (holds q lq) in
     alike-both p q (at ps (lq .0)) (subst (λ (k : ℕ). Alike (at ps k) p) one (lp .2)) (lq .2)

@@ -70,7 +70,7 @@ module _ (g : Table) (l : Laws g) (bs : List ℕ) (size : length bs + 1 ≡ g .o
       let m = length-sums g (paired bs) in
       by-sums (j / 1 + 1) e size r (d .different)
       (λ s. not-right (g .order) (sums g (paired bs)) j h o
-        (record { nonzero = λ k x. s .nonzero k (omega arith); below = sums-below r; different = s .different }))
+      (record { nonzero = λ k x. s .nonzero k (omega arith); below = sums-below r; different = s .different }))
       (j, h, refl, o)
 
   pub accepted : (ps : List Pair) → NumbersRight (g .order) bs → NumbersRight (g .order) (differences g (paired bs)) → NumbersRight (g .order) (sums g (paired bs))
@@ -80,7 +80,7 @@ module _ (g : Table) (l : Laws g) (bs : List ℕ) (size : length bs + 1 ≡ g .o
       let half = length-paired bs in
       let twice = even in
       let strong = strong-from g l (paired bs) (omega arith) (right-pairs r) (d .different)
-        (record { nonzero = λ k h. t .nonzero k (omega arith); different = t .different }) in
+      (record { nonzero = λ k h. t .nonzero k (omega arith); different = t .different }) in
       record {
         size = size;
         listed-strong = strong;

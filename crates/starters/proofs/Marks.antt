@@ -37,28 +37,32 @@ module _ (n : ℕ) (xs : List ℕ) where
       let l = m .long in
       let same = getD-set-same table a true false (omega arith) in
       let fresh : (j : ℕ) → j < i → getD xs j 0 ≢ a = λ j h e.
-        both-ways (getD table a false) new (subst (λ (b : ℕ). getD table b false ≡ true) e (m .marks j h)) in
+      both-ways (getD table a false) new (subst (λ (b : ℕ). getD table b false ≡ true) e (m .marks j h)) in
       record {
         long = length-set table a true ∙ l;
         nonzero = λ j h. elim (cases-eq j i) [ inl e ↦ subst (λ (k : ℕ). 0 < getD xs k 0) (sym e) some | inr o ↦ m .nonzero j (omega arith) ];
         below = λ j h. elim (cases-eq j i) [ inl e ↦ subst (λ (k : ℕ). getD xs k 0 < n) (sym e) less | inr o ↦ m .below j (omega arith) ];
         different = λ j k hj hk e.
-          elim (cases-eq j i)
-          [ inl x ↦ elim (cases-eq k i) [ inl y ↦ x ∙ sym y | inr y ↦ absurd (fresh k (omega arith) (sym e ∙ ap (λ (z : ℕ). getD xs z 0) x)) ]
-          | inr x ↦
-              elim (cases-eq k i)
-              [ inl y ↦ absurd (fresh j (omega arith) (e ∙ ap (λ (z : ℕ). getD xs z 0) y))
-              | inr y ↦ m .different j k (omega arith) (omega arith) e ] ];
+            elim (cases-eq j i) [
+              | inl x ↦ elim (cases-eq k i) [ inl y ↦ x ∙ sym y | inr y ↦ absurd (fresh k (omega arith) (sym e ∙ ap (λ (z : ℕ). getD xs z 0) x)) ]
+              | inr x ↦
+                  elim (cases-eq k i) [
+                    | inl y ↦ absurd (fresh j (omega arith) (e ∙ ap (λ (z : ℕ). getD xs z 0) y))
+                    | inr y ↦ m .different j k (omega arith) (omega arith) e
+                  ]
+            ];
         marks = λ j h.
-          elim (cases-eq j i)
-          [ inl e ↦ subst (λ (k : ℕ). getD (set table a true) (getD xs k 0) false ≡ true) (sym e) same
-          | inr o ↦ let x : j < i = omega arith in getD-set-other table a (getD xs j 0) true false (fresh j x) ∙ m .marks j x ];
+            elim (cases-eq j i) [
+              | inl e ↦ subst (λ (k : ℕ). getD (set table a true) (getD xs k 0) false ≡ true) (sym e) same
+              | inr o ↦ let x : j < i = omega arith in getD-set-other table a (getD xs j 0) true false (fresh j x) ∙ m .marks j x
+            ];
         only = λ b h e.
-          elim (cases-eq b a)
-          [ inl x ↦ (i, omega arith, sym x)
-          | inr x ↦
-              let r = m .only b h (sym (getD-set-other table a b true false x) ∙ e) in
-              (r .0, omega (arith, r .1), r .2) ];
+            elim (cases-eq b a) [
+              | inl x ↦ (i, omega arith, sym x)
+              | inr x ↦
+                  let r = m .only b h (sym (getD-set-other table a b true false x) ∙ e) in
+                  (r .0, omega (arith, r .1), r .2)
+            ];
       }
 
   pub marked-all : (i : ℕ) (table : List Bool) → Marked n xs i table → length xs ≤ i → NumbersRight n xs

@@ -41,12 +41,14 @@ module _ (ps qs : List Pair) (wp : Written ps) (wq : Written qs) (listed : (k : 
       let rise = wp .rising k (suc k) (omega arith) h in
       let a : at qs (t .0) .first ≡ at ps k .first = ap (λ (p : Pair). p .first) (t .2) in
       let b : at qs j .first ≡ at ps (suc k) .first = ap (λ (p : Pair). p .first) e in
-      elim (cases-lt (t .0) j)
-      [ inl less ↦ omega arith
-      | inr more ↦
-          elim (cases-eq j (t .0))
-          [ inl same ↦ absurd (omega (arith, ap (λ (i : ℕ). at qs i .first) same))
-          | inr other ↦ absurd (omega (arith, wq .rising j (t .0) (omega arith) (t .1))) ] ]
+      elim (cases-lt (t .0) j) [
+        | inl less ↦ omega arith
+        | inr more ↦
+            elim (cases-eq j (t .0)) [
+              | inl same ↦ absurd (omega (arith, ap (λ (i : ℕ). at qs i .first) same))
+              | inr other ↦ absurd (omega (arith, wq .rising j (t .0) (omega arith) (t .1)))
+            ]
+      ]
 
 pub written-once : (ps qs : List Pair) → Written ps → Written qs → SamePairs ps qs → ps ≡ qs
 written-once ps qs wp wq same =
@@ -54,11 +56,11 @@ written-once ps qs wp wq same =
     let down = no-longer qs ps (no-twins-from-written qs wq) (same .1) in
     ext-getD nobody ps qs (omega arith)
     (λ k h.
-      let t = there ps qs wp wq (same .0) k h in
-      let low = no-earlier ps qs wp wq (same .0) k h (t .0) (t .1) (t .2) in
-      let high = no-earlier qs ps wq wp (same .1) (t .0) (t .1) k h (sym (t .2)) in
-      let e : t .0 ≡ k = omega arith in
-      sym (ap (at qs) (sym e) ∙ t .2))
+    let t = there ps qs wp wq (same .0) k h in
+    let low = no-earlier ps qs wp wq (same .0) k h (t .0) (t .1) (t .2) in
+    let high = no-earlier qs ps wq wp (same .1) (t .0) (t .1) k h (sym (t .2)) in
+    let e : t .0 ≡ k = omega arith in
+    sym (ap (at qs) (sym e) ∙ t .2))
 
 -- two written lists of the pairs of rs are one
 pub written-only : (rs ps qs : List Pair) → Written ps → Written qs → SamePairs rs ps → SamePairs rs qs → ps ≡ qs

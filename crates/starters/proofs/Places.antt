@@ -40,11 +40,13 @@ module _ (f : Pair → ℕ) where
       → (j / 2 < length ps) × ((getD (both f ps) j 0 ≡ f (at ps (j / 2))) ⊎ (getD (both f ps) j 0 ≡ f (flipped (at ps (j / 2)))))
   both-at ps j h =
       let l = length-both ps in
-      let k : j / 2 < length ps = omega arith in
-      ( k
-      , elim (halved j)
-        [ inl e ↦ inl (ap (λ (i : ℕ). getD (both f ps) i 0) e ∙ both-first ps (j / 2) k)
-        | inr e ↦ inr (ap (λ (i : ℕ). getD (both f ps) i 0) e ∙ both-second ps (j / 2) k) ] )
+      let k : j / 2 < length ps = omega arith in (
+        k,
+        elim (halved j) [
+          | inl e ↦ inl (ap (λ (i : ℕ). getD (both f ps) i 0) e ∙ both-first ps (j / 2) k)
+          | inr e ↦ inr (ap (λ (i : ℕ). getD (both f ps) i 0) e ∙ both-second ps (j / 2) k)
+        ],
+      )
 
 module _ (g : Table) where
   pub length-sums : (ps : List Pair) → length (sums g ps) ≡ length ps
@@ -81,10 +83,11 @@ Agree xs ys m = (j : ℕ) → j < m → getD xs j 0 ≡ getD ys j 0
 
 pub agree-more : (xs ys : List ℕ) (k v : ℕ) → k < length xs → Agree xs ys k → v ≡ getD ys k 0 → Agree (set xs k v) ys (k + 1)
 agree-more xs ys k v h a e j x =
-    elim (cases-eq j k)
-    [ inl same ↦
-        ap (λ (i : ℕ). getD (set xs k v) i 0) same ∙ getD-set-same xs k v 0 h ∙ e ∙ ap (λ (i : ℕ). getD ys i 0) (sym same)
-    | inr other ↦ getD-set-other xs k j v 0 other ∙ a j (omega arith) ]
+    elim (cases-eq j k) [
+      | inl same ↦
+          ap (λ (i : ℕ). getD (set xs k v) i 0) same ∙ getD-set-same xs k v 0 h ∙ e ∙ ap (λ (i : ℕ). getD ys i 0) (sym same)
+      | inr other ↦ getD-set-other xs k j v 0 other ∙ a j (omega arith)
+    ]
 
 pub agree-all : (xs ys : List ℕ) (m : ℕ) → length ys ≡ m → m ≤ length xs → Agree xs ys m → take m xs ≡ ys
 agree-all xs ys m e h a =

@@ -33,12 +33,13 @@ module _ (g : Table) (l : Laws g) where
       let p : Pair = at ps (j / 2) in
       let q = pairs (j / 2) (b .0) in
       let within : (x y : ℕ) → x < g .order → y < g .order → x ≢ y → (0 < difference g x y) × (difference g x y < g .order) = λ x y hx hy ne.
-        let z : difference g x y ≢ 0 = λ e. ne (difference-zero g l x y hx hy e) in
-        (omega arith, difference-below g l x y hx hy) in
+      let z : difference g x y ≢ 0 = λ e. ne (difference-zero g l x y hx hy e) in
+      (omega arith, difference-below g l x y hx hy) in
       let P : ℕ → Type 0 = λ v. (0 < v) × (v < g .order) in
-      elim (b .1)
-      [ inl e ↦ subst P (sym e) (within (p .first) (p .second) (q .first-below) (q .second-below) (q .two))
-      | inr e ↦ subst P (sym e) (within (p .second) (p .first) (q .second-below) (q .first-below) (λ x. q .two (sym x))) ]
+      elim (b .1) [
+        | inl e ↦ subst P (sym e) (within (p .first) (p .second) (q .first-below) (q .second-below) (q .two))
+        | inr e ↦ subst P (sym e) (within (p .second) (p .first) (q .second-below) (q .first-below) (λ x. q .two (sym x)))
+      ]
 
   numbers-within : (ps : List Pair) → ((k : ℕ) → k < length ps → IsPair g (at ps k))
       → (j : ℕ) → j < length (numbers ps) → (0 < getD (numbers ps) j 0) × (getD (numbers ps) j 0 < g .order)
@@ -46,9 +47,10 @@ module _ (g : Table) (l : Laws g) where
       let b = both-at (λ p. p .first) ps j h in
       let q = pairs (j / 2) (b .0) in
       let P : ℕ → Type 0 = λ v. (0 < v) × (v < g .order) in
-      elim (b .1)
-      [ inl e ↦ subst P (sym e) (q .first-nonzero, q .first-below)
-      | inr e ↦ subst P (sym e) (q .second-nonzero, q .second-below) ]
+      elim (b .1) [
+        | inl e ↦ subst P (sym e) (q .first-nonzero, q .first-below)
+        | inr e ↦ subst P (sym e) (q .second-nonzero, q .second-below)
+      ]
 
   -- pairs of different numbers from 1 on
   pub pairs-from : (ps : List Pair) → NumbersRight (g .order) (numbers ps) → (k : ℕ) → k < length ps → IsPair g (at ps k)
@@ -79,10 +81,10 @@ module _ (g : Table) (l : Laws g) where
           size = size;
           pairs = pairs;
           each-number-once = λ a p h.
-            once-each (numbers ps) n (omega arith) (λ j x. (r .nonzero j x, omega (arith, r .below j x))) (r .different) a p (omega arith);
+              once-each (numbers ps) n (omega arith) (λ j x. (r .nonzero j x, omega (arith, r .below j x))) (r .different) a p (omega arith);
           each-difference-once = λ a p h.
-            once-each (differences g ps) n (omega arith)
-            (λ j x. let w = differences-within ps pairs j x in (w .0, omega (arith, w .1))) d a p (omega arith);
+              once-each (differences g ps) n (omega arith)
+              (λ j x. let w = differences-within ps pairs j x in (w .0, omega (arith, w .1))) d a p (omega arith);
         };
         sums-nonzero = s .nonzero;
         sums-different = s .different;
@@ -119,13 +121,14 @@ module _ (g : Table) (l : Laws g) where
       let R : Type 0 = Reaches (λ i. getD (both f qs) i 0) (length (both f qs)) a in
       let at-first : f (at qs (q .0)) ≡ a → R = λ e. (2 * q .0, omega (arith, q .1), first ∙ e) in
       let at-second : f (flipped (at qs (q .0))) ≡ a → R = λ e. (2 * q .0 + 1, omega (arith, q .1), second ∙ e) in
-      elim (b .1)
-      [ inl e ↦
-          let v : f p ≡ a = sym e ∙ o .holds in
-          elim (q .2) [ inl same ↦ at-first (ap f same ∙ v) | inr turned ↦ at-second (ap (λ (x : Pair). f (flipped x)) turned ∙ v) ]
-      | inr e ↦
-          let v : f (flipped p) ≡ a = sym e ∙ o .holds in
-          elim (q .2) [ inl same ↦ at-second (ap (λ (x : Pair). f (flipped x)) same ∙ v) | inr turned ↦ at-first (ap f turned ∙ v) ] ]
+      elim (b .1) [
+        | inl e ↦
+            let v : f p ≡ a = sym e ∙ o .holds in
+            elim (q .2) [ inl same ↦ at-first (ap f same ∙ v) | inr turned ↦ at-second (ap (λ (x : Pair). f (flipped x)) turned ∙ v) ]
+        | inr e ↦
+            let v : f (flipped p) ≡ a = sym e ∙ o .holds in
+            elim (q .2) [ inl same ↦ at-second (ap (λ (x : Pair). f (flipped x)) same ∙ v) | inr turned ↦ at-first (ap f turned ∙ v) ]
+      ]
 
   pair-flipped : (p : Pair) → IsPair g (flipped p) → IsPair g p
   pair-flipped p q = record {
@@ -151,9 +154,10 @@ module _ (g : Table) (l : Laws g) where
         let p = pairs-again k h in
         let f : Pair → ℕ = λ x. g .add (x .first) (x .second) in
         sums-at g qs k h
-        ∙ elim (q .2)
-          [ inl e ↦ ap f (sym e)
-          | inr e ↦ l .commutative (at qs k .first) (at qs k .second) (p .first-below) (p .second-below) ∙ ap f (sym e) ]
+        ∙ elim (q .2) [
+          | inl e ↦ ap f (sym e)
+          | inr e ↦ l .commutative (at qs k .first) (at qs k .second) (p .first-below) (p .second-below) ∙ ap f (sym e)
+        ]
         ∙ sym (sums-at g ps (q .0) (q .1))
 
   -- the same pairs in another order, with either number first, are a strong starter again
@@ -168,22 +172,22 @@ module _ (g : Table) (l : Laws g) where
       let k = length-both apart qs in
       let w = numbers-within qs pairs in
       let numbers-different : Different (numbers qs) =
-        all-different (numbers qs) n (omega arith) (λ a p h. carried first ps qs (same .0) a (s .starter .each-number-once a p (omega arith))) in
+      all-different (numbers qs) n (omega arith) (λ a p h. carried first ps qs (same .0) a (s .starter .each-number-once a p (omega arith))) in
       let differences-different : Different (differences g qs) =
-        all-different (differences g qs) n (omega arith) (λ a p h. carried apart ps qs (same .0) a (s .starter .each-difference-once a p (omega arith))) in
+      all-different (differences g qs) n (omega arith) (λ a p h. carried apart ps qs (same .0) a (s .starter .each-difference-once a p (omega arith))) in
       let sum = sum-again ps qs (s .starter .pairs) (same .1) in
       let sums-different : Different (sums g qs) = λ i j x y q.
-        let ls = length-sums g qs in
-        let lp = length-sums g ps in
-        let hi : i < length qs = omega arith in
-        let hj : j < length qs = omega arith in
-        let one : same .1 i hi .0 ≡ same .1 j hj .0 =
-          s .sums-different (same .1 i hi .0) (same .1 j hj .0) (omega (arith, same .1 i hi .1)) (omega (arith, same .1 j hj .1))
-          (sym (sum i hi) ∙ q ∙ sum j hj) in
-        let a = same .1 i hi in
-        let b = same .1 j hj in
-        no-twins-from-numbers qs numbers-different i j hi hj
-        (alike-both (at qs i) (at qs j) (at ps (b .0)) (subst (λ (m : ℕ). Alike (at ps m) (at qs i)) one (a .2)) (b .2)) in
+      let ls = length-sums g qs in
+      let lp = length-sums g ps in
+      let hi : i < length qs = omega arith in
+      let hj : j < length qs = omega arith in
+      let one : same .1 i hi .0 ≡ same .1 j hj .0 =
+      s .sums-different (same .1 i hi .0) (same .1 j hj .0) (omega (arith, same .1 i hi .1)) (omega (arith, same .1 j hj .1))
+      (sym (sum i hi) ∙ q ∙ sum j hj) in
+      let a = same .1 i hi in
+      let b = same .1 j hj in
+      no-twins-from-numbers qs numbers-different i j hi hj
+      (alike-both (at qs i) (at qs j) (at ps (b .0)) (subst (λ (m : ℕ). Alike (at ps m) (at qs i)) one (a .2)) (b .2)) in
       strong-from qs (omega arith)
       (record { nonzero = λ j h. w j h .0; below = λ j h. w j h .1; different = numbers-different })
       differences-different

@@ -22,19 +22,22 @@ pub couple : (bs : List ℕ) (i j : ℕ) → i < length bs → length bs % 2 ≡
 couple bs i j h even half ne =
     let p = paired-at bs (i / 2) (omega arith) in
     let pair : ℕ → ℕ → Pair = λ x y. record { first = getD bs x 0; second = getD bs y 0 } in
-    elim (halved i)
-    [ inl a ↦
-        elim (halved j)
-        [ inl b ↦ absurd (ne (omega arith))
-        | inr b ↦
-            let c : 2 * (i / 2) + 1 ≡ j = omega arith in
-            (omega arith, inl (p ∙ ap (λ (x : ℕ). pair x (2 * (i / 2) + 1)) (sym a) ∙ ap (pair i) c)) ]
-    | inr a ↦
-        elim (halved j)
-        [ inl b ↦
-            let c : 2 * (i / 2) ≡ j = omega arith in
-            (omega arith, inr (p ∙ ap (λ (x : ℕ). pair x (2 * (i / 2) + 1)) c ∙ ap (pair j) (sym a)))
-        | inr b ↦ absurd (ne (omega arith)) ] ]
+    elim (halved i) [
+      | inl a ↦
+          elim (halved j) [
+            | inl b ↦ absurd (ne (omega arith))
+            | inr b ↦
+                let c : 2 * (i / 2) + 1 ≡ j = omega arith in
+                (omega arith, inl (p ∙ ap (λ (x : ℕ). pair x (2 * (i / 2) + 1)) (sym a) ∙ ap (pair i) c))
+          ]
+      | inr a ↦
+          elim (halved j) [
+            | inl b ↦
+                let c : 2 * (i / 2) ≡ j = omega arith in
+                (omega arith, inr (p ∙ ap (λ (x : ℕ). pair x (2 * (i / 2) + 1)) c ∙ ap (pair j) (sym a)))
+            | inr b ↦ absurd (ne (omega arith))
+          ]
+    ]
 
 -- The list so far holds, in rising order, the pairs of ps whose smaller number is below a.
 pub record Below (ps : List Pair) (a : ℕ) (qs : List Pair) : Type 0 where
@@ -60,12 +63,14 @@ module _ (ps : List Pair) where
       written = m .written;
       listed = m .listed;
       complete = λ p l some less order.
-        elim (cases-eq (p .first) a)
-        [ inl e ↦
-            elim (alike-by-first ps d (record { first = a; second = b }) p here l (sym e))
-            [ inl x ↦ absurd (omega (arith, ap (λ (q : Pair). q .second) x))
-            | inr x ↦ absurd (omega (arith, ap (λ (q : Pair). q .first) x)) ]
-        | inr o ↦ m .complete p l some (omega arith) order ];
+          elim (cases-eq (p .first) a) [
+            | inl e ↦
+                elim (alike-by-first ps d (record { first = a; second = b }) p here l (sym e)) [
+                  | inl x ↦ absurd (omega (arith, ap (λ (q : Pair). q .second) x))
+                  | inr x ↦ absurd (omega (arith, ap (λ (q : Pair). q .first) x))
+                ]
+            | inr o ↦ m .complete p l some (omega arith) order
+          ];
     }
 
     old : (k : ℕ) → k < length qs → at (qs ++ (record { first = a; second = b } ∷ [])) k ≡ at qs k
@@ -80,34 +85,38 @@ module _ (ps : List Pair) where
         let last : at rs (length qs) ≡ p = getD-push qs p nobody (length qs) refl in
         -- what holds of the pairs so far, and of the new one
         let each : (P : Pair → Type 0) → ((k : ℕ) → k < length qs → P (at qs k)) → P p → (k : ℕ) → k < length rs → P (at rs k) = λ P before it k h.
-          elim (cases-eq k (length qs))
-          [ inl e ↦ subst P (sym (ap (at rs) e ∙ last)) it
-          | inr o ↦ subst P (sym (old k (omega arith))) (before k (omega arith)) ] in
+        elim (cases-eq k (length qs)) [
+          | inl e ↦ subst P (sym (ap (at rs) e ∙ last)) it
+          | inr o ↦ subst P (sym (old k (omega arith))) (before k (omega arith))
+        ] in
         record {
           lower = each (λ q. q .first < a + 1) (λ k h. omega (arith, m .lower k h)) (omega arith);
           written = record {
             smaller-first = each (λ q. q .first < q .second) (m .written .smaller-first) order;
             rising = λ j k x h.
-              let front : at rs j ≡ at qs j = old j (omega arith) in
-              let f : at rs j .first ≡ at qs j .first = ap (λ (q : Pair). q .first) front in
-              elim (cases-eq k (length qs))
-              [ inl e ↦
-                  let s : at rs k .first ≡ a = ap (λ (q : Pair). q .first) (ap (at rs) e ∙ last) in
-                  omega (arith, m .lower j (omega arith))
-              | inr o ↦
-                  let s : at rs k .first ≡ at qs k .first = ap (λ (q : Pair). q .first) (old k (omega arith)) in
-                  omega (arith, m .written .rising j k x (omega arith)) ];
+                let front : at rs j ≡ at qs j = old j (omega arith) in
+                let f : at rs j .first ≡ at qs j .first = ap (λ (q : Pair). q .first) front in
+                elim (cases-eq k (length qs)) [
+                  | inl e ↦
+                      let s : at rs k .first ≡ a = ap (λ (q : Pair). q .first) (ap (at rs) e ∙ last) in
+                      omega (arith, m .lower j (omega arith))
+                  | inr o ↦
+                      let s : at rs k .first ≡ at qs k .first = ap (λ (q : Pair). q .first) (old k (omega arith)) in
+                      omega (arith, m .written .rising j k x (omega arith))
+                ];
           };
           listed = each (Listed ps) (m .listed) here;
           complete = λ q l some′ less order′.
-            elim (cases-eq (q .first) a)
-            [ inl e ↦
-                elim (alike-by-first ps d p q here l (sym e))
-                [ inl x ↦ (length qs, omega arith, last ∙ x)
-                | inr x ↦ absurd (omega (arith, ap (λ (y : Pair). y .second) x)) ]
-            | inr o ↦
-                let r = m .complete q l some′ (omega arith) order′ in
-                (r .0, omega (arith, r .1), old (r .0) (r .1) ∙ r .2) ];
+              elim (cases-eq (q .first) a) [
+                | inl e ↦
+                    elim (alike-by-first ps d p q here l (sym e)) [
+                      | inl x ↦ (length qs, omega arith, last ∙ x)
+                      | inr x ↦ absurd (omega (arith, ap (λ (y : Pair). y .second) x))
+                    ]
+                | inr o ↦
+                    let r = m .complete q l some′ (omega arith) order′ in
+                    (r .0, omega (arith, r .1), old (r .0) (r .1) ∙ r .2)
+              ];
         }
 
   -- the list never outgrows ps
@@ -120,18 +129,19 @@ module _ (ps : List Pair) where
       let first : Pair → ℕ = λ p. p .first in
       let long = length-both first ps in
       let there : (k : ℕ) → k < length ps → Listed qs (at ps k) = λ k h.
-        let x : 2 * k < length (numbers ps) = omega arith in
-        let y : 2 * k + 1 < length (numbers ps) = omega arith in
-        let a = both-first first ps k h in
-        let b = both-second first ps k h in
-        let ne : at ps k .first ≢ at ps k .second = λ e. omega (arith, r .different (2 * k) (2 * k + 1) x y (a ∙ e ∙ sym b)) in
-        elim (cases-lt (at ps k .first) (at ps k .second))
-        [ inl less ↦
+      let x : 2 * k < length (numbers ps) = omega arith in
+      let y : 2 * k + 1 < length (numbers ps) = omega arith in
+      let a = both-first first ps k h in
+      let b = both-second first ps k h in
+      let ne : at ps k .first ≢ at ps k .second = λ e. omega (arith, r .different (2 * k) (2 * k + 1) x y (a ∙ e ∙ sym b)) in
+      elim (cases-lt (at ps k .first) (at ps k .second)) [
+        | inl less ↦
             let c = m .complete (at ps k) (k, h, inl refl) (omega (arith, r .nonzero (2 * k) x)) (omega (arith, r .below (2 * k) x)) less in
             (c .0, c .1, inl (c .2))
         | inr more ↦
             let c = m .complete (flipped (at ps k)) (k, h, inr refl) (omega (arith, r .nonzero (2 * k + 1) y)) (omega (arith, r .below (2 * k + 1) y)) (omega arith) in
-            (c .0, c .1, inr (c .2)) ] in
+            (c .0, c .1, inr (c .2))
+      ] in
       let up = below-room n qs m in
       let down = no-longer ps qs (no-twins-from-numbers ps (r .different)) there in
       ((there, m .listed), omega arith)

@@ -8,14 +8,12 @@ ghost use Rattle.std.specs.declared.option.Option.the-variants.{Some};
 ghost use Rattle.starters.specs.Claims.{Claimed, fault};
 ghost use Rattle.starters.specs.Pairs.{paired};
 ghost use Rattle.starters.specs.Starters.{Strong};
-
 use crate::fault::Fault;
 use crate::listing::written_list;
 use crate::questions::wrong_difference;
 use crate::questions::wrong_number;
 use crate::questions::wrong_sum;
 use crate::starter::Starter;
-
 use groups::group::Group;
 use groups::refusal::Refusal;
 

@@ -6,7 +6,6 @@ ghost use lib.ListN.{length, getD};
 ghost use Rattle.starters.specs.Claims.{NumbersRight};
 ghost use Rattle.starters.specs.Pairs.{paired, pairs-of, SamePairs};
 ghost use Rattle.starters.specs.Starters.{Written};
-
 use crate::pair::Pair;
 use crate::starter::Starter;
 

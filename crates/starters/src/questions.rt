@@ -4,7 +4,6 @@ ghost use Prim.Native.Nat.{ℕ, _+_, _*_, _/_, _<_, _≤_};
 ghost use lib.ListN.{length, getD, take};
 ghost use Rattle.starters.specs.Claims.{NumbersRight, Found};
 ghost use Rattle.starters.specs.Pairs.{paired, differences, sums};
-
 use groups::group::Group;
 use groups::group::minus;
 

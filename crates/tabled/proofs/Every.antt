@@ -15,6 +15,7 @@ pub each : (p : ℕ → Bool) (n : ℕ) → every p n ≡ true → (a : ℕ) →
 each p zero t a h = absurd (omega arith)
 each p (suc n) t a h =
     let both = and-parts (p n) (every p n) t in
-    elim (cases-eq n a)
-    [ inl same ↦ subst (λ (x : ℕ). p x ≡ true) same (both .0)
-    | inr other ↦ each p n (both .1) a (omega arith) ]
+    elim (cases-eq n a) [
+      | inl same ↦ subst (λ (x : ℕ). p x ≡ true) same (both .0)
+      | inr other ↦ each p n (both .1) a (omega arith)
+    ]

@@ -29,7 +29,7 @@ each-three p t a b c x y z = each-two (p a) (each (λ a. every (λ b. every (p a
 pub seven-opposite : (a : ℕ) → a < 7 → Opposite seven a (negative a)
 seven-opposite a x =
     let both = and-parts (ltb (negative a) 7) (eqb (plus a (negative a)) 0)
-      (each (λ a. ltb (negative a) 7 && eqb (plus a (negative a)) 0) 7 refl a x) in
+    (each (λ a. ltb (negative a) 7 && eqb (plus a (negative a)) 0) 7 refl a x) in
     (ltb-true (negative a) 7 (both .0), eqb-true (plus a (negative a)) 0 (both .1))
 
 pub seven-laws : Laws seven
@@ -39,8 +39,8 @@ seven-laws =
       closed = λ a b x y. ltb-true (plus a b) 7 (each-two (λ a b. ltb (plus a b) 7) refl a b x y);
       commutative = λ a b x y. eqb-true (plus a b) (plus b a) (each-two (λ a b. eqb (plus a b) (plus b a)) refl a b x y);
       associative = λ a b c x y z.
-        eqb-true (plus (plus a b) c) (plus a (plus b c))
-        (each-three (λ a b c. eqb (plus (plus a b) c) (plus a (plus b c))) refl a b c x y z);
+          eqb-true (plus (plus a b) c) (plus a (plus b c))
+          (each-three (λ a b c. eqb (plus (plus a b) c) (plus a (plus b c))) refl a b c x y z);
       neutral = λ a x. eqb-true (plus 0 a) a (each (λ a. eqb (plus 0 a) a) 7 refl a x);
       has-opposite = λ a x. let o = seven-opposite a x in (negative a, o .0, o .1);
     }

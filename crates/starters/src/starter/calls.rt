@@ -5,7 +5,6 @@ ghost use Prim.Native.Nat.{ℕ, _+_, _<_};
 ghost use lib.ListN.{length};
 ghost use Rattle.std.specs.Options.{Cases as BySome};
 ghost use Rattle.starters.specs.Pairs.{at, pairs-of, Alike, Holds};
-
 use crate::pair::Pair;
 use crate::starter::Starter;
 
@@ -16,7 +15,10 @@ impl Starter {
         ensures count { λ r. ⌜ r .count ≡ 0 ⌝ }
     {
         Starter {
-            pairs: [Pair { first: 0, second: 0 }; 63],
+            pairs: [Pair {
+                first: 0,
+                second: 0,
+            }; 63],
             count: 0,
         }
     }

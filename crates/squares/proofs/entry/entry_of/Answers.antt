@@ -43,13 +43,13 @@ returns-in-Some g c =
     let sum : c .sum .result ≡ t .add m o = sum-of-elements t m o (c .sum .result) hm ho (c .sum .ensures) in
     let hs : c .sum .result < t .order = subst (λ (x : ℕ). x < t .order) (sym sum) (l .closed m o hm ho) in
     let venue : c .sum-in-Some .result ≡ t .add r (t .add (difference t u r) o) =
-      sum-of-elements t r (c .sum .result) (c .sum-in-Some .result) hr hs (c .sum-in-Some .ensures)
-      ∙ ap (t .add r) (sum ∙ ap (λ (x : ℕ). t .add x o) is) in
+    sum-of-elements t r (c .sum .result) (c .sum-in-Some .result) hr hs (c .sum-in-Some .ensures)
+    ∙ ap (t .add r) (sum ∙ ap (λ (x : ℕ). t .add x o) is) in
     let opponent : c .sum-in-Some-2 .result ≡ t .add o r = sum-of-elements t o r (c .sum-in-Some-2 .result) ho hr (c .sum-in-Some-2 .ensures) in
     line-as t l ps (c .pre .strong) r hr u (k + 1) (t .add r (t .add (difference t u r) o)) (t .add o r)
     (k + 1) (c .sum-in-Some .result) (c .sum-in-Some-2 .result) refl venue opponent
     (line-by-pair t l ps (c .pre .strong) r hr k (found .0) u o hu
-      (subst (λ (x : ℕ). Alike (at ps k) (record { first = x; second = o })) is (found .1)))
+    (subst (λ (x : ℕ). Alike (at ps k) (record { first = x; second = o })) is (found .1)))
 
 pub returns-in-None : need.returns-in-None
 returns-in-None g c =
@@ -62,4 +62,4 @@ returns-in-None g c =
     let m = moved t u r (c .minus-moved .result) hu (c .pre .round) (c .minus-moved .ensures) in
     line-as t l ps (c .pre .strong) r (c .pre .round) u 0 r (t .order) 0 r (c .order-n .result) refl refl (c .order-n .ensures)
     (line-by-none t l ps (c .pre .strong) r (c .pre .round) u hu
-      (λ k h holds. c .in-None .ensures tt k h (elim holds [ inl x ↦ inl (x ∙ sym m) | inr x ↦ inr (x ∙ sym m) ])))
+    (λ k h holds. c .in-None .ensures tt k h (elim holds [ inl x ↦ inl (x ∙ sym m) | inr x ↦ inr (x ∙ sym m) ])))

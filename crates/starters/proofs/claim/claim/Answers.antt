@@ -75,5 +75,5 @@ returns g c =
     let size = c .if-bytes-n .left ∙ c .order-n .ensures in
     let list = c .written-list in
     let a = accepted t l bs size (pairs-of (list .result)) (c .in-rest .ensures tt) (c .in-rest-wrong-difference .ensures tt) (c .in-rest-wrong-sum .ensures tt)
-      (list .ensures .same) (list .ensures .long) (list .ensures .written) in
+    (list .ensures .same) (list .ensures .long) (list .ensures .written) in
     record { claimed = a; strong = decided t l bs (Ok (list .result)) a }

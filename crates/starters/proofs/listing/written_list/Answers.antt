@@ -18,8 +18,8 @@ push-requires c κs =
     let some : 0 < a = omega (arith, c .loop-first .kept .first) in
     let even : length bs % 2 ≡ 0 = omega (arith, c .pre .odd, c .pre .size) in
     let room = number-room bs (c .args .n) (c .pre .right) even (getD (c .places-of-places .result) a 0) (c .partner .result) a
-      (c .places-of-places .ensures a some (c .loop-first-test .taken)) (c .partner .ensures .half) (c .partner .ensures .other)
-      (pairs-of s) (c .loop-first .inv) some (c .if-first-second .taken) in
+    (c .places-of-places .ensures a some (c .loop-first-test .taken)) (c .partner .ensures .half) (c .partner .ensures .other)
+    (pairs-of s) (c .loop-first .inv) some (c .if-first-second .taken) in
     omega (arith, s .long, c .pre .most, c .pre .size)
 
 pub loop-first-holds : need.loop-first-holds
@@ -36,14 +36,15 @@ loop-first-again c =
     let place = c .places-of-places .ensures a some (c .loop-first-test .taken) in
     let half = c .partner .ensures .half in
     let other = c .partner .ensures .other in
-    elim (c .if-first-second .came)
-    [ then-first-second w ↦
-        subst (λ t. Below (paired bs) (a + 1) (pairs-of t)) (sym (w .starter-is))
-        (subst (Below (paired bs) (a + 1)) (sym (w .push .ensures .list))
+    elim (c .if-first-second .came) [
+      | then-first-second w ↦
+          subst (λ t. Below (paired bs) (a + 1) (pairs-of t)) (sym (w .starter-is))
+          (subst (Below (paired bs) (a + 1)) (sym (w .push .ensures .list))
           (number-more bs (c .args .n) (c .pre .right) even i (c .partner .result) a place half other (pairs-of s) (c .loop-first .inv) some (w .if-first-second .taken)))
-    | else-first-second w ↦
-        subst (λ t. Below (paired bs) (a + 1) (pairs-of t)) (sym (w .starter-is))
-        (number-skip bs (c .args .n) (c .pre .right) even i (c .partner .result) a place half other (pairs-of s) (c .loop-first .inv) (w .if-first-second .left)) ]
+      | else-first-second w ↦
+          subst (λ t. Below (paired bs) (a + 1) (pairs-of t)) (sym (w .starter-is))
+          (number-skip bs (c .args .n) (c .pre .right) even i (c .partner .result) a place half other (pairs-of s) (c .loop-first .inv) (w .if-first-second .left))
+    ]
 
 pub returns : need.returns
 returns c =

@@ -14,12 +14,13 @@ loop-k-again g c =
     let bs = c .args .bytes .now in
     let k = c .loop-k .k in
     let h : k < length bs / 2 = c .loop-k-test .taken in
-    let l = length-paired bs in
-    ( simp length-set (c .loop-k .inv .0)
-    , agree-both (λ p. difference t (p .first) (p .second)) (paired bs) (c .loop-k .all) k (c .minus .result) (c .minus-in-loop-k .result)
-      (omega arith) (omega (arith, c .loop-k .inv .0, c .pre .few)) (c .loop-k .inv .1)
-      (on-pair t bs (c .pre .below) k h (difference t) (c .minus .result) (c .minus .ensures))
-      (on-pair-flipped t bs (c .pre .below) k h (difference t) (c .minus-in-loop-k .result) (c .minus-in-loop-k .ensures)) )
+    let l = length-paired bs in (
+      simp length-set (c .loop-k .inv .0),
+      agree-both (λ p. difference t (p .first) (p .second)) (paired bs) (c .loop-k .all) k (c .minus .result) (c .minus-in-loop-k .result)
+          (omega arith) (omega (arith, c .loop-k .inv .0, c .pre .few)) (c .loop-k .inv .1)
+          (on-pair t bs (c .pre .below) k h (difference t) (c .minus .result) (c .minus .ensures))
+          (on-pair-flipped t bs (c .pre .below) k h (difference t) (c .minus-in-loop-k .result) (c .minus-in-loop-k .ensures)),
+    )
 
 pub returns : need.returns
 returns g c =

@@ -18,12 +18,13 @@ returns-then-a-eq0 c =
     let xs = c .args .numbers .now in
     let j = c .loop-j .j in
     let wrong : OutOfPlace (c .args .n) xs j =
-      elim (c .then-a-eq0 .came)
-      [ then-a-eq0·by·then-a-eq0 w ↦ inl (w .if-a-eq0 .taken)
+    elim (c .then-a-eq0 .came) [
+      | then-a-eq0·by·then-a-eq0 w ↦ inl (w .if-a-eq0 .taken)
       | then-a-eq0·by·else-a-eq0·then-a-n w ↦ inr (inl (w .if-a-n .taken))
       | then-a-eq0·by·else-a-eq0·else-a-n·then-seen-a w ↦
           marked-again (c .args .n) xs j (c .loop-j .seen) (c .loop-j .inv) (c .loop-j-test .taken)
-          (omega (arith, w .if-a-n .left, c .pre)) (w .if-seen-a .taken) ] in
+          (omega (arith, w .if-a-n .left, c .pre)) (w .if-seen-a .taken)
+    ] in
     (c .loop-j-test .taken, wrong)
 
 pub returns : need.returns

@@ -12,10 +12,11 @@ loop-k-again g c =
     let bs = c .args .bytes .now in
     let k = c .loop-k .k in
     let h : k < length bs / 2 = c .loop-k-test .taken in
-    let l = length-paired bs in
-    ( simp length-set (c .loop-k .inv .0)
-    , agree-more (c .loop-k .all) (sums t (paired bs)) k (c .sum .result) (omega (arith, c .loop-k .inv .0, c .pre .few)) (c .loop-k .inv .1)
-      (on-pair t bs (c .pre .below) k h (t .add) (c .sum .result) (c .sum .ensures) ∙ sym (sums-at t (paired bs) k (omega arith))) )
+    let l = length-paired bs in (
+      simp length-set (c .loop-k .inv .0),
+      agree-more (c .loop-k .all) (sums t (paired bs)) k (c .sum .result) (omega (arith, c .loop-k .inv .0, c .pre .few)) (c .loop-k .inv .1)
+          (on-pair t bs (c .pre .below) k h (t .add) (c .sum .result) (c .sum .ensures) ∙ sym (sums-at t (paired bs) k (omega arith))),
+    )
 
 pub returns : need.returns
 returns g c =

@@ -8,8 +8,8 @@ use Rattle.groups.proofs.product.ProductGroup.opposite.Needs as need
 -- the two opposites put together are small, and the opposite in the product
 joined : (g : given.Over) (c : need.After-opposite-lower g)
     → let G = g .G·Group .table (c .args .self .now .first) in let H = g .H·Group .table (c .args .self .now .second) in
-      let r = c .opposite-upper .result * c .order-k .result + c .opposite-lower .result in
-      (r < 128) × Opposite (product G H) (counted (product G H) (c .args .a)) r
+    let r = c .opposite-upper .result * c .order-k .result + c .opposite-lower .result in
+    (r < 128) × Opposite (product G H) (counted (product G H) (c .args .a)) r
 joined g c =
     let p = c .args .self .now in
     product-opposite (g .G·Group .table (p .first)) (g .H·Group .table (p .second)) (g .G·Group·met .laws (p .first)) (g .H·Group·met .laws (p .second))

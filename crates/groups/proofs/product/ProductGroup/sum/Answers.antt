@@ -9,8 +9,8 @@ use Rattle.groups.proofs.product.ProductGroup.sum.Needs as need
 -- the two sums put together are small, and the sum of the product
 joined : (g : given.Over) (c : need.After-sum-lower g)
     → let G = g .G·Group .table (c .args .self .now .first) in let H = g .H·Group .table (c .args .self .now .second) in
-      let r = c .sum-upper .result * c .order-k .result + c .sum-lower .result in
-      (r < 128) × (r ≡ product G H .add (counted (product G H) (c .args .a)) (counted (product G H) (c .args .b)))
+    let r = c .sum-upper .result * c .order-k .result + c .sum-lower .result in
+    (r < 128) × (r ≡ product G H .add (counted (product G H) (c .args .a)) (counted (product G H) (c .args .b)))
 joined g c =
     let p = c .args .self .now in
     product-sum (g .G·Group .table (p .first)) (g .H·Group .table (p .second)) (g .G·Group·met .laws (p .first)) (g .H·Group·met .laws (p .second))
