@@ -10,7 +10,7 @@
 --     parts g h           the numbers a·k + b of the parts a of g and b of h, where k is the order of h
 --     product g h         the table of a product: that of its parts, or past 127 that of its second group
 use mathlib.Core.Bool.{Bool, cond}
-use mathlib.Core.Path.{_≡_}
+use mathlib.Core.Path.{_≡_, refl}
 use Prim.Native.Nat.{ℕ, _+_, _*_, _/_, _%_, _<_, _≤_}
 use lib.Dec.{eqb, ltb, leb}
 use Rattle.groups.specs.Numbers.{lowest}
@@ -52,3 +52,23 @@ parts g h =
 
 abbrev pub product : Table → Table → Table
 product g h = cond (leb (g .order * h .order) 127) (parts g h) h
+
+-- Examples.
+
+large-operand : counted (cyclic 7) 9 ≡ 0
+large-operand = refl
+
+an-opposite : opposite (cyclic 7) 3 ≡ 4
+an-opposite = refl
+
+a-difference : difference (cyclic 7) 1 3 ≡ 5
+a-difference = refl
+
+parts-apart : product (cyclic 3) (cyclic 3) .add 2 2 ≡ 1
+parts-apart = refl
+
+opposite-parts : product (cyclic 3) (cyclic 3) .add 5 7 ≡ 0
+opposite-parts = refl
+
+past-127 : product (cyclic 11) (cyclic 13) .order ≡ 13
+past-127 = refl

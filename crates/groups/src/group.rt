@@ -28,7 +28,7 @@ pub trait Group {
     fn opposite(&self, a: u8) -> u8
         ensures { λ r. ⌜ Opposite (table (now (self .entry))) (counted (table (now (self .entry))) a) r ⌝ };
 
-    // The letter of the kind, for generic code: what it answers is the constant LETTER.
+    // The letter of the kind, for generic code: a contract cannot name the constant LETTER.
     fn kind_letter(&self) -> u8
         ensures { λ r. ⌜ r ≡ kind ⌝ };
 }

@@ -3,3 +3,5 @@ pub mod cyclic;
 pub mod group;
 pub mod product;
 pub mod refusal;
+#[cfg(test)]
+mod tests;

@@ -15,9 +15,9 @@ use Rattle.groups.proofs.Lowest.{lowest-only, lowest-passes}
 use Rattle.starters.specs.Pairs.{at, numbers, sums, Holds, Alike}
 use Rattle.starters.specs.Starters.{IsPair, Strong}
 use Rattle.starters.specs.declared.pair.Pair.{Pair}
-use Rattle.starters.proofs.Alikes.{one-pair}
+use Rattle.starters.proofs.Likeness.{one-pair}
 use Rattle.starters.proofs.Places.{both-at, length-sums, sums-at}
-use Rattle.starters.proofs.Strongs.{numbers-right}
+use Rattle.starters.proofs.StrongStarters.{numbers-right}
 use Rattle.squares.specs.Cells.{Cell, empty, meet, lower-first, plays, opponent}
 use Rattle.squares.specs.Squares.{venue-of, teams-of, place-of, square}
 use Rattle.squares.specs.Cards.{venue-in, table-in, line, Line}

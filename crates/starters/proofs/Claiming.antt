@@ -22,9 +22,9 @@ use Rattle.starters.specs.Starters.{IsPair, Strong, Written}
 use Rattle.starters.specs.declared.fault.Fault.{Fault}
 use Rattle.starters.specs.declared.pair.Pair.{Pair}
 use Rattle.starters.specs.declared.starter.Starter.{Starter}
-use Rattle.starters.proofs.Onlys.{written-only}
+use Rattle.starters.proofs.Uniqueness.{written-only}
 use Rattle.starters.proofs.Places.{length-paired, length-both, length-sums, sums-at, numbers-paired}
-use Rattle.starters.proofs.Strongs.{strong-from, strong-again, pairs-from, differences-within, numbers-right, differences-right, sums-right}
+use Rattle.starters.proofs.StrongStarters.{strong-from, strong-again, pairs-from, differences-within, numbers-right, differences-right, sums-right}
 
 -- a number out of place is not right
 not-right : (n : ℕ) (xs : List ℕ) (j : ℕ) → j < length xs → OutOfPlace n xs j → NumbersRight n xs → ⊥

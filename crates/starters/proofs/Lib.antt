@@ -1,7 +1,7 @@
 pub mod Places
-pub mod Alikes
-pub mod Onlys
-pub mod Strongs
+pub mod Likeness
+pub mod Uniqueness
+pub mod StrongStarters
 pub mod Marks
 pub mod Writing
 pub mod Claiming

@@ -13,7 +13,7 @@ use Rattle.starters.specs.Pairs.{nobody, at, flipped, numbers, paired, Alike, 
 use Rattle.starters.specs.Claims.{NumbersRight}
 use Rattle.starters.specs.Starters.{Written}
 use Rattle.starters.specs.declared.pair.Pair.{Pair}
-use Rattle.starters.proofs.Alikes.{no-longer, alike-by-first, no-twins-from-numbers, no-twins-from-written}
+use Rattle.starters.proofs.Likeness.{no-longer, alike-by-first, no-twins-from-numbers, no-twins-from-written}
 use Rattle.starters.proofs.Places.{halved, length-both, both-first, both-second, length-paired, paired-at, numbers-paired}
 
 -- the two places of a pair hold its numbers

@@ -5,3 +5,5 @@ mod listing;
 pub mod pair;
 mod questions;
 pub mod starter;
+#[cfg(test)]
+mod tests;

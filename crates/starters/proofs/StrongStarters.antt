@@ -13,7 +13,7 @@ use Rattle.starters.specs.Pairs.{at, flipped, both, numbers, differences, sums
 use Rattle.starters.specs.Starters.{IsPair, IsStarter, Strong, Written}
 use Rattle.starters.specs.Claims.{NumbersRight, DifferencesRight, SumsRight}
 use Rattle.starters.specs.declared.pair.Pair.{Pair}
-use Rattle.starters.proofs.Alikes.{alike-both, no-twins-from-numbers}
+use Rattle.starters.proofs.Likeness.{alike-both, no-twins-from-numbers}
 use Rattle.starters.proofs.Places.{length-both, both-first, both-second, both-at, length-sums, sums-at}
 
 -- where each of the numbers from 1 on stands once, no number from 1 on stands twice

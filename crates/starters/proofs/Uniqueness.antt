@@ -10,7 +10,7 @@ use Rattle.std.proofs.shelf.Tests.{cases-eq, cases-lt}
 use Rattle.starters.specs.Pairs.{nobody, at, flipped, Alike, Listed, SamePairs}
 use Rattle.starters.specs.Starters.{Written}
 use Rattle.starters.specs.declared.pair.Pair.{Pair}
-use Rattle.starters.proofs.Alikes.{alike-trans, no-longer, no-twins-from-written}
+use Rattle.starters.proofs.Likeness.{alike-trans, no-longer, no-twins-from-written}
 
 -- pairs that have their smaller numbers first are the same where they are alike
 oriented : (p q : Pair) → p .first < p .second → q .first < q .second → Alike p q → p ≡ q
