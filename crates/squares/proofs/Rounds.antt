@@ -27,27 +27,23 @@ module _ (g : Table) (l : Laws g) (ps : List Pair) (s : Strong g ps) (r : ℕ) (
   pair : (k : ℕ) → k < length ps → IsPair g (at ps k)
   pair = s .starter .pairs
 
-  sum-of : ℕ → ℕ
+  abbrev sum-of : ℕ → ℕ
   sum-of k = g .add (at ps k .first) (at ps k .second)
 
-  sum-below : (k : ℕ) → k < length ps → sum-of k < g .order
-  unfolding sum-of
+  pub sum-below : (k : ℕ) → k < length ps → g .add (at ps k .first) (at ps k .second) < g .order
   sum-below k h = let p = pair k h in l .closed (at ps k .first) (at ps k .second) (p .first-below) (p .second-below)
 
   pub venue-below : (k : ℕ) → k < length ps → venue-of g r (at ps k) < g .order
-  unfolding sum-of
   venue-below k h = l .closed r (sum-of k) hr (sum-below k h)
 
   -- no pair plays at the guest's venue
   pub venue-not-own : (k : ℕ) → k < length ps → venue-of g r (at ps k) ≢ r
-  unfolding sum-of
   venue-not-own k h e =
       let z : sum-of k ≡ 0 = cancel-left g l r (sum-of k) 0 hr (sum-below k h) (some g l) (e ∙ sym (add-zero g l r hr)) in
       omega (arith, s .sums-nonzero k h, sums-at g ps k h, z)
 
   -- no two pairs play at one venue
   pub venue-apart : (j k : ℕ) → j < length ps → k < length ps → venue-of g r (at ps j) ≡ venue-of g r (at ps k) → j ≡ k
-  unfolding sum-of
   venue-apart j k x y e =
       let same : sum-of j ≡ sum-of k = cancel-left g l r (sum-of j) (sum-of k) hr (sum-below j x) (sum-below k y) e in
       let m = length-sums g ps in

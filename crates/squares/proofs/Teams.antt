@@ -29,6 +29,13 @@ plays-first a b =
       | inr h ↦ ap (plays a) (lower-first-more a b h) ∙ or-right (eqb b a) (eqb a a) (eq-eqb a a refl)
     ]
 
+pub plays-second : (a b : ℕ) → plays b (lower-first a b) ≡ true
+plays-second a b =
+    elim (cases-lt a b) [
+      | inl h ↦ ap (plays b) (lower-first-less a b h) ∙ or-right (eqb a b) (eqb b b) (eq-eqb b b refl)
+      | inr h ↦ ap (plays b) (lower-first-more a b h) ∙ or-left (eqb b b) (eqb a b) (eq-eqb b b refl)
+    ]
+
 pub plays-either : (u a b : ℕ) → plays u (lower-first a b) ≡ true → (a ≡ u) ⊎ (b ≡ u)
 plays-either u a b t =
     elim (cases-lt a b) [

@@ -5,7 +5,7 @@
 --     lines g ps u r k          the lines of the k rounds from r on
 --     card g ps u               the lines of all rounds
 --     Line g ps u r a v o       what a line says: in round r the team plays at venue v and nowhere else, against o, at table a
---     CardWritten g bs u ..     what a card call writes
+--     CardWritten g bs u ..     what a card call writes: the card of the team in a Room square, the square of the starter
 --     CardRefused g bs u ..     the first question of a card call that is answered no
 --     Carded g bs u ..          what a card call answers, and what the caller's place holds before and after it
 use mathlib.Core.Bool.{true, cond}
@@ -27,6 +27,7 @@ use Rattle.starters.specs.Starters.{Strong}
 use Rattle.starters.specs.declared.fault.Fault.{Fault}
 use Rattle.starters.specs.declared.pair.Pair.{Pair}
 use Rattle.squares.specs.Cells.{Cells, lower-first, plays, opponent}
+use Rattle.squares.specs.RoomSquares.{RoomSquare}
 use Rattle.squares.specs.Squares.{venue-of, teams-of, place-of, square}
 
 abbrev pub venue-in : ℕ → Cells → ℕ → ℕ → ℕ
@@ -62,6 +63,7 @@ pub record CardWritten (g : Table) (bs : List ℕ) (u : ℕ) (before after : Lis
   pub size : long ≡ 3 * g .order
   pub room : long ≤ length before
   pub bytes : after ≡ card g starter u ++ drop long before
+  pub fair : RoomSquare (g .order) (square g starter)
   pub says : (r : ℕ) → r < g .order → Line g starter u r (getD after (3 * r) 0) (getD after (3 * r + 1) 0) (getD after (3 * r + 2) 0)
 
 pub data CardRefused (g : Table) (bs : List ℕ) (u : ℕ) (before : List ℕ) (f : Fault) : Type 0 where

@@ -1,3 +1,4 @@
 pub mod Cells
+pub mod RoomSquares
 pub mod Squares
 pub mod Cards

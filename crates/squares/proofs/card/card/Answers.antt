@@ -10,6 +10,7 @@ use Rattle.starters.specs.Pairs.{pairs-of}
 use Rattle.squares.specs.Cards.{lines}
 use Rattle.squares.specs.Cards.CardRefused.{by-claim, by-team, by-place}
 use Rattle.squares.proofs.Lines.{CardSoFar, no-round, one-round-more}
+use Rattle.squares.proofs.RoomSquares.{room-square}
 use Rattle.squares.proofs.card.card.Needs as need
 
 pub returns-in-Break-starter : need.returns-in-Break-starter
@@ -48,5 +49,6 @@ returns g c =
       size = ap (λ (k : ℕ). 3 * k) n;
       room = omega (arith, c .if-place-length .left);
       bytes = so .bytes ∙ ap (λ (k : ℕ). lines t ps u 0 (t .order) ++ drop (3 * k) (c .args .place .now)) (sym n);
+      fair = room-square t l ps (made .strong);
       says = so .says;
     }
