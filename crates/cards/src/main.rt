@@ -1,4 +1,6 @@
 // Reads a group and a claimed starter, and prints the movement card of every team.
+#![tactic(auto)]
+
 mod answer;
 mod lines;
 

@@ -1,4 +1,6 @@
 // Reads a sheet, and prints whether it is that of a Room square, or what is wrong with it.
+#![tactic(auto)]
+
 mod answer;
 mod lines;
 

@@ -1,9 +1,8 @@
 -- What follows from the laws alone: cancellation, opposites and differences, translations and reflections.
 -- Assumes nothing.
-use Rattle.std.specs.Prelude.{◌≡◌, ℕ, zero, suc, ◌+◌, ◌<◌, ◌≤◌, true, false, nat_eq, nat_lt, refl}
+use Rattle.std.specs.Prelude.{◌≡◌, ℕ, ◌<◌, nat_eq, nat_lt}
 use Rattle.std.proofs.Common.{inl, inr, sym, ◌∙◌, ap, subst, arith}
-use Rattle.std.proofs.lemmas.Bool.{cases_Bool, ltb-true, lt-ltb, le-ltb, eq-eqb, eqb-true}
-use Rattle.groups.specs.Numbers.{lowest}
+use Rattle.std.proofs.lemmas.Bool.{cases_Bool, ltb-true, lt-ltb, eq-eqb, eqb-true}
 use Rattle.groups.specs.Tables.{Table, Laws, Opposite, counted, opposite, difference}
 use Rattle.groups.specs.Lowest.{lowest_only}
 

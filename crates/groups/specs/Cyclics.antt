@@ -1,9 +1,8 @@
 -- The cyclic tables keep the laws. Assumes nothing.
-use Rattle.std.proofs.Common.{inl, inr, sym, ◌∙◌, ap, add_comm, add_assoc, zero-add, mod-lt, mod-eq_of_lt, arith}
-use Rattle.std.specs.Prelude.{◌≡◌, ℕ, ◌+◌, ◌-◌, ◌%◌, ◌<◌, ◌≤◌, refl}
+use Rattle.std.proofs.Common.{sym, ◌∙◌, ap, add_comm, add_assoc, zero-add, mod-lt, mod-eq_of_lt, arith}
+use Rattle.std.specs.Prelude.{◌≡◌, ℕ, ◌+◌, ◌-◌, ◌%◌, ◌<◌}
 use Rattle.std.proofs.Math.Nat.{mod-add-mod, mod_self}
-use Rattle.std.proofs.lemmas.Bool.{cases_eq}
-use Rattle.groups.specs.Tables.{Table, Laws, OddOrder, Opposite, cyclic}
+use Rattle.groups.specs.Tables.{Laws, OddOrder, Opposite, cyclic}
 
 -- a remainder on the right of a sum
 mod_right : (n a b : ℕ) → (a + b % n) % n ≡ (a + b) % n

@@ -3,7 +3,7 @@
 --     Once xs a           the number a stands exactly once in the list xs
 --     Different xs        no two places of the list xs hold the same number
 --     lowest p k a        the lowest of the k numbers from a on that passes the test p, or a + k where none does
-use Rattle.std.specs.Prelude.{◌≡◌, ℕ, zero, suc, ◌+◌, ◌<◌, Bool, true, false, cond, List, length, nat_lt, slice_index, refl}
+use Rattle.std.specs.Prelude.{◌≡◌, ℕ, zero, suc, ◌+◌, ◌<◌, Bool, cond, List, length, nat_lt, slice_index, refl}
 
 pub record OnlyOne (m : ℕ) (P : ℕ → Type 0) : Type 0 where
   pub here : ℕ

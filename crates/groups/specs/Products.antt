@@ -1,11 +1,11 @@
 -- The product of two lawful tables keeps the laws. Assumes nothing.
-use Rattle.std.specs.Prelude.{◌≡◌, ℕ, ◌+◌, ◌*◌, ◌/◌, ◌%◌, ◌<◌, ◌≤◌, true, false, cond, nat_le, nat_lt, refl}
+use Rattle.std.specs.Prelude.{◌≡◌, ℕ, ◌+◌, ◌*◌, ◌/◌, ◌%◌, ◌<◌, ◌≤◌, cond, nat_le, nat_lt}
 use Rattle.std.proofs.Common.{inl, inr, sym, ◌∙◌, ap, subst, mod-lt, mod-eq_of_lt, add-mul, mul_assoc, arith}
 use Rattle.std.proofs.Math.Nat.{div-eq_of_lt, mul-add-mod_self_left}
 use Rattle.std.proofs.Math.Arith.{digits_lt, digits_div, digits_mod}
 use Rattle.std.proofs.lemmas.Nat.{div_below, div-add-mod', mul-le}
 use Rattle.std.proofs.lemmas.Bool.{cases_lt, le-leb, lt-leb, cond-true, cond-false}
-use Rattle.groups.specs.Tables.{Table, Laws, OddOrder, Opposite, counted, parts, product}
+use Rattle.groups.specs.Tables.{Table, Laws, Opposite, counted, parts, product}
 use Rattle.groups.specs.Algebra.{some as some_of, counted_is, counted_below}
 
 -- odd times odd is odd

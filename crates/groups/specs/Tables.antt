@@ -9,7 +9,7 @@
 --     cyclic n            the numbers below n, summed modulo n
 --     parts g h           the numbers a·k + b of the parts a of g and b of h, where k is the order of h
 --     product g h         the table of a product: that of its parts, or past 127 that of its second group
-use Rattle.std.specs.Prelude.{◌≡◌, ℕ, ◌+◌, ◌*◌, ◌/◌, ◌%◌, ◌<◌, ◌≤◌, Bool, cond, nat_eq, nat_le, nat_lt, refl}
+use Rattle.std.specs.Prelude.{◌≡◌, ℕ, ◌+◌, ◌*◌, ◌/◌, ◌%◌, ◌<◌, ◌≤◌, cond, nat_eq, nat_le, nat_lt, refl}
 use Rattle.groups.specs.Numbers.{lowest}
 
 pub record Table : Type 0 where

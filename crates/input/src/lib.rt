@@ -1,5 +1,7 @@
 // Reading of typed lines: bytes in, numbers out. A line ends with a line feed. A numeral is one or more
 // decimal digits, and a value above 255 counts as 255.
+#![tactic(auto)]
+
 pub mod lines;
 pub mod numbers;
 mod numeral;

@@ -1,4 +1,6 @@
 // Sheets: Room squares as bytes. The format, and the reader that accepts exactly the sheets of Room squares.
+#![tactic(auto)]
+
 pub mod check;
 mod command;
 pub mod entry;

@@ -1,4 +1,6 @@
 // A kind of group from outside the crate of groups: seven numbers whose sums stand in a table.
+#![tactic(auto)]
+
 ghost use Rattle.tabled.specs.Seven.{seven};
 ghost use Rattle.tabled.specs.Sevens.{seven_laws};
 

@@ -1,5 +1,5 @@
-use Rattle.std.proofs.Common.{◌≡◌, ℕ, ◌-◌, ◌%◌, ◌<◌, sym, arith}
-use Rattle.groups.specs.Tables.{Opposite, counted, cyclic}
+use Rattle.std.proofs.Common.{arith}
+use Rattle.groups.specs.Tables.{counted, cyclic}
 use Rattle.groups.specs.Algebra.{counted_below}
 use Rattle.groups.specs.Cyclics.{cyclic_opposite}
 use Rattle.groups.proofs.cyclic.CyclicGroup.opposite.Goals as goal

@@ -1,4 +1,4 @@
-use Rattle.std.proofs.Common.{ℕ, ◌+◌, ◌*◌, ◌<◌, arith}
+use Rattle.std.proofs.Common.{◌+◌, ◌*◌, ◌<◌, arith}
 use Rattle.groups.specs.Tables.{Opposite, counted, product}
 use Rattle.groups.specs.Products.{product_opposite}
 use Rattle.groups.proofs.product.ProductGroup.opposite.Given as given
@@ -16,11 +16,11 @@ joined g c =
     c.args.a c.count-a.result c.opposite-upper.result c.opposite-lower.result
     c.count-a.ensures c.opposite-upper.ensures c.opposite-lower.ensures
 
-pub overflow-mul-result : goal.overflow-mul-result
-overflow-mul-result g c = omega (arith, (joined g c).0)
+pub overflow_mul-result : goal.overflow_mul-result
+overflow_mul-result g c = omega (arith, (joined g c).0)
 
-pub overflow-add-result : goal.overflow-add-result
-overflow-add-result g c = omega (arith, (joined g c).0)
+pub overflow_add-result : goal.overflow_add-result
+overflow_add-result g c = omega (arith, (joined g c).0)
 
 pub returns : goal.returns
 returns g c = (joined g c).1
