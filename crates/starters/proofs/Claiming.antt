@@ -1,17 +1,17 @@
 -- What a claim answers, from what its questions found. Assumes nothing.
-use Rattle.std.proofs.Common.{◌≡◌, ℕ, ◌+◌, ◌*◌, ◌/◌, ◌%◌, ◌<◌, ◌≤◌, Bool, true, false, ◌≢◌, ◌⊎◌, List, length, get_or, is_ok, Some, Ok, Err, Decides, Option, Result, sym, refl, ap, ◌∙◌, subst, inl, inr, arith}
+use Rattle.std.proofs.Common.{◌≡◌, ℕ, ◌+◌, ◌/◌, ◌%◌, ◌<◌, List, length, get_or, is_ok, Some, Ok, Err, Decides, Option, Result, sym, refl, subst, inl, inr, arith}
 use Rattle.std.proofs.lemmas.Bool.{false≢true}
 use Rattle.groups.specs.Tables.{Table, Laws}
 use Rattle.groups.specs.declared.refusal.Refusal.TheVariants.{Numbers, Differences, Sums}
-use Rattle.starters.specs.Claims.{OutOfPlace, NumbersRight, Found, DifferencesRight, SumsRight, fault, WrittenList, Refused, Claimed}
+use Rattle.starters.specs.Claims.{OutOfPlace, NumbersRight, Found, fault, WrittenList, Refused, Claimed}
 use Rattle.starters.specs.Claims.Refused.{by_length, by_numbers, by_differences, by_sums}
 use Rattle.starters.specs.Pairs.{paired, numbers, differences, sums, SamePairs}
-use Rattle.starters.specs.Starters.{IsPair, Strong, Written}
+use Rattle.starters.specs.Starters.{Strong, Written}
 use Rattle.starters.specs.declared.fault.Fault.{Fault}
 use Rattle.starters.specs.declared.pair.Pair.{Pair}
 use Rattle.starters.specs.declared.starter.Starter.{Starter}
 use Rattle.starters.proofs.Uniqueness.{written_only}
-use Rattle.starters.proofs.Places.{length-paired, length_both, length-sums, sums_at, numbers-paired}
+use Rattle.starters.proofs.Places.{length-paired, length-sums, sums_at, numbers-paired}
 use Rattle.starters.proofs.StrongStarters.{strong_from, strong_again, pairs_from, differences_within, numbers_right, differences_right, sums_right}
 
 -- a number out of place is not right

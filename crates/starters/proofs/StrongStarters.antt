@@ -1,11 +1,11 @@
 -- Strong starters by the questions of a claim, and under another order of the pairs. Assumes nothing.
-use Rattle.std.proofs.Common.{◌≡◌, ℕ, zero, suc, ◌+◌, ◌-◌, ◌*◌, ◌/◌, ◌<◌, ◌≤◌, ◌≢◌, ◌⊎◌, List, [], ◌∷◌, length, get_or, sym, refl, ap, ◌∙◌, subst, inl, inr, arith}
+use Rattle.std.proofs.Common.{◌≡◌, ℕ, ◌+◌, ◌-◌, ◌*◌, ◌/◌, ◌<◌, ◌≢◌, List, length, get_or, sym, refl, ap, ◌∙◌, subst, inl, inr, arith}
 use Rattle.groups.specs.Numbers.{Once, Different}
 use Rattle.groups.specs.Tables.{Table, Laws, difference}
 use Rattle.groups.specs.Algebra.{difference_below, difference_zero}
 use Rattle.groups.proofs.Pigeonhole.{Reaches, once_each, all_different}
 use Rattle.starters.specs.Pairs.{at, flipped, both, numbers, differences, sums, Alike, Listed, SamePairs}
-use Rattle.starters.specs.Starters.{IsPair, IsStarter, Strong, Written}
+use Rattle.starters.specs.Starters.{IsPair, Strong}
 use Rattle.starters.specs.Claims.{NumbersRight, DifferencesRight, SumsRight}
 use Rattle.starters.specs.declared.pair.Pair.{Pair}
 use Rattle.starters.proofs.Likeness.{alike_both, no_twins_from_numbers}

@@ -1,8 +1,8 @@
 -- A set of pairs has one written list. Assumes nothing.
-use Rattle.std.proofs.Common.{◌≡◌, ℕ, zero, suc, ◌+◌, ◌<◌, ◌≤◌, ◌≢◌, ◌⊎◌, List, length, get_or, sym, refl, ap, ◌∙◌, subst, inl, inr, arith}
+use Rattle.std.proofs.Common.{◌≡◌, ℕ, zero, suc, ◌<◌, ◌≤◌, List, length, sym, ap, ◌∙◌, inl, inr, arith}
 use Rattle.std.proofs.lemmas.List.{ext_get_or}
 use Rattle.std.proofs.lemmas.Bool.{cases_eq, cases_lt}
-use Rattle.starters.specs.Pairs.{nobody, at, flipped, Alike, Listed, SamePairs}
+use Rattle.starters.specs.Pairs.{nobody, at, Alike, Listed, SamePairs}
 use Rattle.starters.specs.Starters.{Written}
 use Rattle.starters.specs.declared.pair.Pair.{Pair}
 use Rattle.starters.proofs.Likeness.{alike_trans, no_longer, no_twins_from_written}

@@ -6,7 +6,7 @@
 --     Written ps          the smaller number first in each pair, and the first numbers rising
 --     Lowest xs a         a is the lowest nonzero number that is not in xs
 --     Sound g ps          what makes a list of pairs sound: it may grow into a written strong starter
-use Rattle.std.specs.Prelude.{◌≡◌, ℕ, ◌+◌, ◌/◌, ◌<◌, ◌≢◌, List, [], length, take, slice_index}
+use Rattle.std.specs.Prelude.{◌≡◌, ℕ, ◌+◌, ◌/◌, ◌<◌, ◌≢◌, List, length, take, slice_index}
 use Rattle.groups.specs.Numbers.{Once, Different}
 use Rattle.groups.specs.Tables.{Table}
 use Rattle.starters.specs.Pairs.{at, numbers, differences, sums}

@@ -8,16 +8,16 @@ use Rattle.cards.proofs.answer.push_answer.Goals as goal
 pub returns-in-Ok : goal.returns-in-Ok
 returns-in-Ok c =
     let e = c.in-Ok.ensures in
-    IfOk-weaker c.push-cards.result _ _
+    IfOk-weaker c.push_cards.result _ _
     (λ _ b. by_made c.args.orders (One c.in-One.a) (cyclic c.in-Ok.group.order) c.args.numbers.now (string_bytes c.args.text.now)
-    (string_bytes c.push-cards.new.text) c.in-One.is e.1 (ap cyclic e.0) b)
-    c.push-cards.ensures
+    (string_bytes c.push_cards.new.text) c.in-One.is e.1 (ap cyclic e.0) b)
+    c.push_cards.ensures
 
 pub returns-in-Ok-double : goal.returns-in-Ok-double
 returns-in-Ok-double c =
     let p = c.in-Ok-double.group in
     let e = c.in-Ok-double.ensures in
-    let r = c.push-cards-in-Ok-double in
+    let r = c.push_cards-in-Ok-double in
     let t = product (cyclic p.first.order) (cyclic p.second.order) in
     IfOk-weaker r.result _ _
     (λ _ b. by_made c.args.orders (Two c.in-Two.a c.in-Two.b) t c.args.numbers.now (string_bytes c.args.text.now)
@@ -29,7 +29,7 @@ pub returns-in-Ok-triple : goal.returns-in-Ok-triple
 returns-in-Ok-triple c =
     let p = c.in-Ok-triple.group in
     let e = c.in-Ok-triple.ensures in
-    let r = c.push-cards-in-Ok-triple in
+    let r = c.push_cards-in-Ok-triple in
     let x = c.in-Three in
     let t = product (product (cyclic p.first.first.order) (cyclic p.first.second.order)) (cyclic p.second.order) in
     IfOk-weaker r.result _ _

@@ -5,17 +5,17 @@ use Rattle.cards.specs.Answers.ByGroup.{not_claimed}
 use Rattle.cards.specs.Texts.{summary_line}
 use Rattle.cards.proofs.Cards.{CardsSoFar, no_card, one_card_more, not_refused, all_written}
 use Rattle.cards.proofs.answer.push_cards.Goals as goal
-use Rattle.cards.proofs.answer.push_cards.Goals.{in-Ok+in-ok-push-card, in-default-card}
+use Rattle.cards.proofs.answer.push_cards.Goals.{in-Ok+in_ok-push_card, in_default-card}
 
 pub returns-in-Err : goal.returns-in-Err
 returns-in-Err g c =
-    IfOk-weaker c.push-refused.result _ _ (λ _ e. not_claimed c.in-Err.fault c.in-Err.ensures.claimed e) c.push-refused.ensures
+    IfOk-weaker c.push_refused.result _ _ (λ _ e. not_claimed c.in-Err.fault c.in-Err.ensures.claimed e) c.push_refused.ensures
 
 pub loop-team-init : goal.loop-team-init
 loop-team-init g c = (
   refl,
   no_card (g.G.Group.table c.args.group.now) c.args.numbers.now (string_bytes c.args.text.now)
-      (pairs_of c.in-default.field-0) c.in-default.ensures.claimed,
+      (pairs_of c.in_default.field-0) c.in_default.ensures.claimed,
 )
 
 pub loop-team-preserved : goal.loop-team-preserved
@@ -30,14 +30,14 @@ loop-team-preserved g c =
     let long : length c.card.new.place ≡ 381 = c.card.auto.place ∙ c.loop-team.invariant.0 in (
       long,
       elim c.match-card.branch [
-        | in-Ok+in-ok-push-card w ↦
+        | in-Ok+in_ok-push_card w ↦
             subst (λ s. CardsSoFar t bs start (u + 1) (string_bytes s)) (sym w.text-is)
             (one_card_more t bs start u w.in-Ok.length c.loop-team.place c.card.new.place (string_bytes c.loop-team.text)
-            (string_bytes w.push-card.new.text) h so w.in-Ok.ensures w.in-ok-push-card.ensures)
-        | in-default-card w ↦
+            (string_bytes w.push_card.new.text) h so w.in-Ok.ensures w.in_ok-push_card.ensures)
+        | in_default-card w ↦
             absurd
-            (not_refused t bs start l u c.loop-team.place w.in-default-card.field-0 so.starter h
-            (omega (arith, c.loop-team.invariant.0, l.odd_order.2)) so.listed w.in-default-card.ensures.1)
+            (not_refused t bs start l u c.loop-team.place w.in_default-card.field-0 so.starter h
+            (omega (arith, c.loop-team.invariant.0, l.odd_order.2)) so.listed w.in_default-card.ensures.1)
       ],
     )
 
@@ -48,9 +48,9 @@ returns g c =
     let start = string_bytes c.args.text.now in
     let last : c.loop-team.team ≡ t.order + 1 = omega (arith, c.loop-team-test.false, c.loop-team.auto.team-end, c.order-n.ensures) in
     let so = subst (λ (u : ℕ). CardsSoFar t bs start u (string_bytes c.loop-team.text)) last c.loop-team.invariant.1 in
-    IfOk-weaker c.push-summary.result _ _
+    IfOk-weaker c.push_summary.result _ _
     (λ _ e.
-    all_written t bs start g.G.Group.kind (string_bytes c.loop-team.text) (string_bytes c.push-summary.new.text) so
-    (e ∙ ap (λ (n : ℕ). string_bytes c.loop-team.text ++ summary_line n c.kind-letter.result) c.order-n.ensures
-    ∙ ap (λ (k : ℕ). string_bytes c.loop-team.text ++ summary_line t.order k) c.kind-letter.ensures))
-    c.push-summary.ensures
+    all_written t bs start g.G.Group.kind (string_bytes c.loop-team.text) (string_bytes c.push_summary.new.text) so
+    (e ∙ ap (λ (n : ℕ). string_bytes c.loop-team.text ++ summary_line n c.kind_letter.result) c.order-n.ensures
+    ∙ ap (λ (k : ℕ). string_bytes c.loop-team.text ++ summary_line t.order k) c.kind_letter.ensures))
+    c.push_summary.ensures

@@ -4,20 +4,20 @@ use Rattle.input.proofs.Cut.{no_first_line}
 use Rattle.cards.proofs.Inputs.{no_last, no_orders, no_numbers}
 use Rattle.cards.proofs.answer.read.Goals as goal
 
-pub returns-in-default : goal.returns-in-default
-returns-in-default c = λ o bs t. no_first_line c.args.input.now t.first t.rest c.in-default.ensures t.first_line
+pub returns-in_default : goal.returns-in_default
+returns-in_default c = λ o bs t. no_first_line c.args.input.now t.first t.rest c.in_default.ensures t.first_line
 
-pub returns-in-default-last-line : goal.returns-in-default-last-line
-returns-in-default-last-line c = λ o bs t.
-    no_last c.args.input.now c.in-Some.first.now c.in-Some.rest.now o bs c.in-Some.ensures t c.in-default-last-line.ensures
+pub returns-in_default-last_line : goal.returns-in_default-last_line
+returns-in_default-last_line c = λ o bs t.
+    no_last c.args.input.now c.in-Some.first.now c.in-Some.rest.now o bs c.in-Some.ensures t c.in_default-last_line.ensures
 
-pub returns-in-default-read-orders : goal.returns-in-default-read-orders
-returns-in-default-read-orders c = λ o bs t.
+pub returns-in_default-read_orders : goal.returns-in_default-read_orders
+returns-in_default-read_orders c = λ o bs t.
     no_orders c.args.input.now c.in-Some.first.now c.in-Some.rest.now o bs c.in-Some.ensures t
-    (sym c.read-orders.ensures.value ∙ c.in-default-read-orders.is)
+    (sym c.read_orders.ensures.value ∙ c.in_default-read_orders.is)
 
-pub returns-in-default-2 : goal.returns-in-default-2
-returns-in-default-2 c = λ o bs t.
+pub returns-in_default-2 : goal.returns-in_default-2
+returns-in_default-2 c = λ o bs t.
     no_numbers c.args.input.now c.in-Some.first.now c.in-Some.rest.now o bs c.in-Some.ensures t
-    c.in-Some-last-line.second.now c.in-Some-last-line.ensures
-    (sym c.in-ok-numbers.ensures.value ∙ ap (option_map vec_items) c.in-default-2.is)
+    c.in-Some-last_line.second.now c.in-Some-last_line.ensures
+    (sym c.in_ok-numbers.ensures.value ∙ ap (option_map vec_items) c.in_default-2.is)

@@ -1,4 +1,3 @@
-use Rattle.std.proofs.Common.{◌≡◌, length}
 use Rattle.starters.specs.Pairs.{paired, pairs_of}
 use Rattle.starters.proofs.Writing.{Below}
 use Rattle.starters.proofs.listing.written_list.Given as goal

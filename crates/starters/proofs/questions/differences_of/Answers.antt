@@ -1,8 +1,7 @@
-use Rattle.std.proofs.Common.{◌≡◌, ℕ, ◌*◌, ◌/◌, ◌<◌, length, set, ◌∙◌, arith, length-set}
+use Rattle.std.proofs.Common.{◌*◌, ◌/◌, ◌<◌, length, arith, length-set}
 use Rattle.groups.specs.Tables.{difference}
 use Rattle.starters.specs.Pairs.{paired, differences}
-use Rattle.starters.specs.declared.pair.Pair.{Pair}
-use Rattle.starters.proofs.Places.{Agree, length-paired, length_both, on_pair, on_pair_flipped, agree_both, agree_all}
+use Rattle.starters.proofs.Places.{length-paired, length_both, on_pair, on_pair_flipped, agree_both, agree_all}
 use Rattle.starters.proofs.questions.differences_of.Goals as goal
 
 pub loop-k-preserved : goal.loop-k-preserved

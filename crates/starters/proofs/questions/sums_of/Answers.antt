@@ -1,4 +1,4 @@
-use Rattle.std.proofs.Common.{◌≡◌, ℕ, ◌/◌, ◌<◌, length, sym, ◌∙◌, arith, length-set}
+use Rattle.std.proofs.Common.{◌/◌, ◌<◌, length, sym, ◌∙◌, arith, length-set}
 use Rattle.starters.specs.Pairs.{paired, sums}
 use Rattle.starters.proofs.Places.{length-paired, length-sums, sums_at, on_pair, agree_more, agree_all}
 use Rattle.starters.proofs.questions.sums_of.Goals as goal

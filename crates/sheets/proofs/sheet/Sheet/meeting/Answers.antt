@@ -28,4 +28,4 @@ loop-at-preserved c = λ s.
 
 pub returns : goal.returns
 returns c = λ s.
-    scan_ends s.side s.square c.args.round c.args.venue c.loop-at.rest.now (c.loop-at.invariant s) c.in-default.ensures
+    scan_ends s.side s.square c.args.round c.args.venue c.loop-at.rest.now (c.loop-at.invariant s) c.in_default.ensures
