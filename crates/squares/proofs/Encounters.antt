@@ -3,12 +3,11 @@ use Rattle.std.proofs.Common.{◌≡◌, ℕ, ◌+◌, ◌*◌, ◌/◌, ◌<◌
 use Rattle.std.proofs.lemmas.Bool.{cases_eq}
 use Rattle.groups.specs.Tables.{Table, Laws, difference}
 use Rattle.groups.specs.Algebra.{cancel_left, cancel_right, difference_below, difference_adds, difference_only, difference_zero}
-use Rattle.starters.specs.Pairs.{at, flipped, numbers, differences, Alike}
+use Rattle.starters.specs.Pairs.{at, flipped, differences, Alike}
 use Rattle.starters.specs.Starters.{IsPair, Strong}
 use Rattle.starters.specs.declared.pair.Pair.{Pair}
 use Rattle.starters.proofs.Places.{length_both, both_first, both_second, both_at}
 use Rattle.starters.proofs.StrongStarters.{differences_right}
-use Rattle.squares.specs.Cells.{meet}
 use Rattle.squares.specs.Squares.{venue_of, square}
 use Rattle.squares.specs.RoomSquares.{Together, OnlyCell}
 use Rattle.squares.proofs.Rounds.{plays_where, venue_below, venue_not_own, venue_apart}

@@ -1,11 +1,10 @@
 -- One round of the square of a strong starter: every team plays exactly once. Assumes nothing.
-use Rattle.std.proofs.Common.{◌≡◌, ℕ, ◌+◌, ◌/◌, ◌<◌, ◌≤◌, Bool, true, false, cond, eqb, ltb, ◌≢◌, ◌⊎◌, List, [], ◌∷◌, length, get_or, sym, refl, ap, ◌∙◌, subst, inl, inr, arith}
-use Rattle.std.proofs.lemmas.Bool.{cases_Bool, cases_eq, lt-ltb, ltb-true, eq-eqb, ne_eqb, eqb-true, eqb-false, or_cases, false≢true, cond-true, cond-false}
-use Rattle.groups.specs.Numbers.{OnlyOne, lowest}
+use Rattle.std.proofs.Common.{◌≡◌, ℕ, ◌+◌, ◌/◌, ◌<◌, ◌≤◌, Bool, true, cond, eqb, ltb, ◌≢◌, ◌⊎◌, List, [], ◌∷◌, length, sym, refl, ap, ◌∙◌, subst, inl, inr, arith}
+use Rattle.std.proofs.lemmas.Bool.{cases_Bool, cases_eq, lt-ltb, ltb-true, eq-eqb, ne_eqb, eqb-true, or_cases, false≢true, cond-true, cond-false}
 use Rattle.groups.specs.Tables.{Table, Laws, difference}
 use Rattle.groups.specs.Algebra.{some, add_zero, cancel_left, cancel_right, translate_back, translate_only, difference_below, difference_zero}
 use Rattle.groups.specs.Lowest.{lowest_only, lowest_passes}
-use Rattle.starters.specs.Pairs.{at, numbers, sums, Holds, Alike}
+use Rattle.starters.specs.Pairs.{at, Holds, Alike}
 use Rattle.starters.specs.Starters.{IsPair, Strong}
 use Rattle.starters.specs.declared.pair.Pair.{Pair}
 use Rattle.starters.proofs.Likeness.{one_pair}

@@ -1,7 +1,7 @@
 -- Cells of two teams. Assumes nothing.
-use Rattle.std.proofs.Common.{◌≡◌, ℕ, ◌<◌, ◌≤◌, Bool, true, false, cond, ◌||◌, eqb, ltb, ◌≢◌, ◌⊎◌, sym, refl, ap, ◌∙◌, subst, inl, inr, arith}
+use Rattle.std.proofs.Common.{◌≡◌, ℕ, ◌<◌, ◌≤◌, true, eqb, ◌≢◌, ◌⊎◌, sym, refl, ap, ◌∙◌, inl, inr, arith}
 use Rattle.std.proofs.lemmas.Bool.{cases_lt, lt-ltb, le-ltb, eq-eqb, ne_eqb, eqb-true, or_cases, or_left, or_right}
-use Rattle.squares.specs.Cells.{Cell, empty, meet, lower_first, plays, opponent}
+use Rattle.squares.specs.Cells.{meet, lower_first, plays, opponent}
 
 pub lower_first_less : (a b : ℕ) → a < b → lower_first a b ≡ meet a b
 lower_first_less a b h = simp (lt-ltb a b h)

@@ -8,8 +8,8 @@
 --     CardWritten g bs u ..     what a card call writes: the card of the team in a Room square, the square of the starter
 --     CardRefused g bs u ..     the first question of a card call that is answered no
 --     Carded g bs u ..          what a card call answers, and what the caller's place holds before and after it
-use Rattle.std.specs.Prelude.{◌≡◌, ℕ, zero, suc, ◌+◌, ◌-◌, ◌*◌, ◌<◌, ◌≤◌, true, cond, ◌≢◌, ◌⊎◌, List, [], ◌∷◌, ◌++◌, length, drop, None, Result, MatchResult, ◌==◌, slice_index, refl}
-use Rattle.groups.specs.Numbers.{OnlyOne, lowest}
+use Rattle.std.specs.Prelude.{◌≡◌, ℕ, zero, suc, ◌+◌, ◌*◌, ◌<◌, ◌≤◌, true, cond, ◌≢◌, ◌⊎◌, List, [], ◌∷◌, ◌++◌, length, drop, None, Result, MatchResult, ◌==◌, slice_index, refl}
+use Rattle.groups.specs.Numbers.{lowest}
 use Rattle.groups.specs.Tables.{Table, cyclic}
 use Rattle.groups.specs.declared.refusal.Refusal.TheVariants.{Team, Place}
 use Rattle.starters.specs.Claims.{WrittenList, Refused, fault}

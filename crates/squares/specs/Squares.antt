@@ -4,7 +4,7 @@
 --     place_of g ps r v       the place, from 0, of the pair that plays round r at venue v, or the length of ps where none does
 --     square g ps             the cells: in round r the guest meets team r at venue r, each pair plays at its venue, and all
 --                             other cells are empty
-use Rattle.std.specs.Prelude.{◌≡◌, ℕ, ◌<◌, cond, List, [], ◌∷◌, length, ◌==◌, nat_eq, nat_lt, refl}
+use Rattle.std.specs.Prelude.{◌≡◌, ℕ, cond, List, [], ◌∷◌, length, ◌==◌, nat_eq, nat_lt, refl}
 use Rattle.groups.specs.Numbers.{lowest}
 use Rattle.groups.specs.Tables.{Table, cyclic}
 use Rattle.starters.specs.Pairs.{at, paired}

@@ -1,9 +1,8 @@
-use Rattle.std.proofs.Common.{◌≡◌, ℕ, ◌+◌, ◌*◌, ◌<◌, ◌≤◌, List, ◌++◌, length, drop, None, sym, refl, ap, ◌∙◌, subst, arith}
+use Rattle.std.proofs.Common.{◌≡◌, ℕ, ◌*◌, ◌++◌, drop, sym, refl, ap, ◌∙◌, subst, arith}
 use Rattle.std.proofs.lemmas.Result.{err_from_is_err_and}
-use Rattle.groups.specs.declared.refusal.Refusal.TheVariants.{Team, Place}
 use Rattle.starters.specs.Pairs.{pairs_of}
 use Rattle.squares.specs.Cards.{lines}
-use Rattle.squares.specs.Cards.CardRefused.{by_claim, by_team, by_place}
+use Rattle.squares.specs.Cards.CardRefused.{by_claim}
 use Rattle.squares.proofs.Lines.{CardSoFar, no_round, one_round_more}
 use Rattle.squares.proofs.RoomSquares.{room_square}
 use Rattle.squares.proofs.card.card.Goals as goal

@@ -1,6 +1,6 @@
 // The lines of the answer.
 ghost use Rattle.std.specs.Prelude.{◌≡◌, ◌++◌, string_bytes, OnOk};
-ghost use Rattle.check.specs.Texts.{accepted_line, part, refused_line};
+ghost use Rattle.sheet_check.specs.Texts.{accepted_line, part, refused_line};
 
 use sheets::fault::Fault;
 use std::fmt;

@@ -1,6 +1,6 @@
 // The answer to an input: that it is a sheet, or why it is none.
 ghost use Rattle.std.specs.Prelude.{IfOk, string_bytes};
-ghost use Rattle.check.specs.Answers.{Answer};
+ghost use Rattle.sheet_check.specs.Answers.{Answer};
 
 use crate::lines::{push_accepted, push_refused};
 use sheets::sheet::{Sheet, read};

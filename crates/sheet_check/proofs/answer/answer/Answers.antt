@@ -1,10 +1,10 @@
 use Rattle.std.proofs.Common.{ℕ, List, string_bytes, sym, subst}
 use Rattle.std.proofs.lemmas.Result.{err_from_is_err_and}
 use Rattle.sheets.specs.Readings.{SideOf}
-use Rattle.check.specs.Answers.{Answer}
-use Rattle.check.proofs.Verdicts.{is_accepted, is_refused}
-use Rattle.check.proofs.answer.answer.Goals as goal
-use Rattle.check.proofs.answer.answer.Goals.{in-Ok+in_ok-push_accepted, in-Err+in_ok-push_refused}
+use Rattle.sheet_check.specs.Answers.{Answer}
+use Rattle.sheet_check.proofs.Verdicts.{is_accepted, is_refused}
+use Rattle.sheet_check.proofs.answer.answer.Goals as goal
+use Rattle.sheet_check.proofs.answer.answer.Goals.{in-Ok+in_ok-push_accepted, in-Err+in_ok-push_refused}
 
 pub returns-in_err-push_accepted : goal.returns-in_err-push_accepted
 returns-in_err-push_accepted c =

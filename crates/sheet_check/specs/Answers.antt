@@ -5,7 +5,7 @@ use Rattle.std.specs.Prelude.{◌≡◌, ℕ, List, Err}
 use Rattle.sheets.specs.Judgements.{judge}
 use Rattle.sheets.specs.Readings.{RoomSheet}
 use Rattle.sheets.specs.declared.fault.Fault.{Fault}
-use Rattle.check.specs.Texts.{accepted_line, refused_line}
+use Rattle.sheet_check.specs.Texts.{accepted_line, refused_line}
 
 pub data Answer (input text : List ℕ) : Type 0 where
   accepted : RoomSheet input → ((s : RoomSheet input) → text ≡ accepted_line s.side) → Answer input text

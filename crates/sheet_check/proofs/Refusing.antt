@@ -5,7 +5,7 @@ use Rattle.std.proofs.lemmas.List.{append_assoc}
 use Rattle.groups.specs.Refusals.{number_of}
 use Rattle.sheets.specs.Faults.{layer_name}
 use Rattle.sheets.specs.declared.fault.Fault.{Fault}
-use Rattle.check.specs.Texts.{part, refused_line}
+use Rattle.sheet_check.specs.Texts.{part, refused_line}
 
 abbrev pub head : ℕ → Fault → List ℕ
 head q f =

@@ -1,7 +1,7 @@
 use Rattle.std.proofs.Common.{string_bytes}
 use Rattle.std.proofs.lemmas.Result.{IfOk-weaker}
-use Rattle.check.proofs.Refusing.{refused_whole}
-use Rattle.check.proofs.lines.push_refused.Goals as goal
+use Rattle.sheet_check.proofs.Refusing.{refused_whole}
+use Rattle.sheet_check.proofs.lines.push_refused.Goals as goal
 
 pub returns : goal.returns
 returns c =

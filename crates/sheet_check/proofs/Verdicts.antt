@@ -2,9 +2,9 @@
 use Rattle.std.proofs.Common.{◌≡◌, ℕ, List, [], ◌++◌, Ok, Err, sym, refl, ap, ◌∙◌, arith}
 use Rattle.sheets.specs.Readings.{Checked, SideOf}
 use Rattle.sheets.specs.declared.fault.Fault.{Fault}
-use Rattle.check.specs.Answers.{Answer}
-use Rattle.check.specs.Answers.Answer.{accepted, refused}
-use Rattle.check.specs.Texts.{accepted_line, refused_line}
+use Rattle.sheet_check.specs.Answers.{Answer}
+use Rattle.sheet_check.specs.Answers.Answer.{accepted, refused}
+use Rattle.sheet_check.specs.Texts.{accepted_line, refused_line}
 
 module _ (input start text : List ℕ) (empty : start ≡ []) where
   pub is_accepted : (n : ℕ) → Checked input (Ok tt) → SideOf input n → text ≡ start ++ accepted_line n → Answer input text
