@@ -1,8 +1,8 @@
 -- The cards of all teams, one after the other. Assumes nothing.
-use Rattle.std.proofs.Common.{◌≡◌, ℕ, zero, suc, ◌+◌, ◌-◌, ◌*◌, ◌<◌, ◌≤◌, List, [], ◌∷◌, ◌++◌, length, take, drop, sym, refl, ap, ◌∙◌, subst, arith}
+use Rattle.std.proofs.Common.{◌≡◌, ℕ, suc, ◌+◌, ◌-◌, ◌*◌, ◌<◌, ◌≤◌, List, [], ◌++◌, length, take, drop, sym, ap, ◌∙◌, subst, arith}
 use Rattle.std.proofs.lemmas.List.{append_assoc, append-nil, take_at}
 use Rattle.groups.specs.Tables.{Table, Laws}
-use Rattle.starters.specs.Claims.{WrittenList, Refused}
+use Rattle.starters.specs.Claims.{WrittenList}
 use Rattle.starters.specs.declared.fault.Fault.{Fault}
 use Rattle.starters.specs.declared.pair.Pair.{Pair}
 use Rattle.starters.proofs.Claiming.{refused_weak}
@@ -14,7 +14,7 @@ use Rattle.input.specs.declared.orders.Orders.{Orders}
 use Rattle.cards.specs.Answers.{ByGroup, ByOrders}
 use Rattle.cards.specs.Answers.ByGroup.{carded}
 use Rattle.cards.specs.Answers.ByOrders.{made_group}
-use Rattle.cards.specs.Texts.{card_text, cards_text, summary_line, all_cards}
+use Rattle.cards.specs.Texts.{card_text, cards_text, summary_line}
 
 -- The cards of the teams below u stand in the text, and with those to come it is the text of all cards after its start.
 pub record CardsSoFar (g : Table) (bs start : List ℕ) (u : ℕ) (text : List ℕ) : Type 0 where

@@ -1,5 +1,5 @@
 -- Inputs that are not of the form. Assumes nothing.
-use Rattle.std.proofs.Common.{◌≡◌, ℕ, List, Some, None, Option, sym, refl, ap, ◌∙◌, subst, arith}
+use Rattle.std.proofs.Common.{◌≡◌, ℕ, List, Some, None, Option, sym, ap, ◌∙◌, subst, arith}
 use Rattle.input.specs.Lines.{FirstLine, LastLine}
 use Rattle.input.specs.Read.{orders_of, numbers_of}
 use Rattle.input.specs.declared.orders.Orders.{Orders}

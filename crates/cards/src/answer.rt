@@ -14,10 +14,9 @@ use input::products::{double, triple};
 use squares::card::card;
 use starters::claim::claim;
 use std::alloc::{AllocError, Global};
-use std::fmt;
 
 // The cards of all teams in the square of a claimed starter, or its refusal.
-fn push_cards<G: Group>(text: &mut String, group: &G, numbers: &[u8]) -> fmt::Result
+fn push_cards<G: Group>(text: &mut String, group: &G, numbers: &[u8]) -> Result<(), AllocError>
     ensures { OnOk result (ByGroup (G.Group.table group.now) G.Group.kind numbers.now (string_bytes text.old) (string_bytes text.new)) }
 {
     if let Err(fault) = claim(group, numbers) {
@@ -34,7 +33,7 @@ fn push_cards<G: Group>(text: &mut String, group: &G, numbers: &[u8]) -> fmt::Re
 }
 
 // The answer for the group of the orders.
-fn push_answer(text: &mut String, orders: Orders, numbers: &[u8]) -> fmt::Result
+fn push_answer(text: &mut String, orders: Orders, numbers: &[u8]) -> Result<(), AllocError>
     ensures { OnOk result (ByOrders orders numbers.now (string_bytes text.old) (string_bytes text.new)) }
 {
     let refusal = match orders {

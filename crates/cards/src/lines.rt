@@ -3,11 +3,11 @@ ghost use Rattle.std.specs.Prelude.{◌≡◌, ◌++◌, string_bytes, OnOk};
 ghost use Rattle.cards.specs.Texts.{card_text, refused_line, round_line, summary_line, team_line, usage_line};
 
 use groups::refusal::Refusal;
-use std::fmt;
+use std::alloc::AllocError;
 use std::fmt::Write;
 
 // What is expected of the input.
-pub fn push_usage(text: &mut String) -> fmt::Result
+pub fn push_usage(text: &mut String) -> Result<(), AllocError>
     ensures { OnOk result (string_bytes text.new ≡ string_bytes text.old ++ usage_line) }
 {
     write!(
@@ -17,7 +17,7 @@ pub fn push_usage(text: &mut String) -> fmt::Result
 }
 
 // A refusal, with the pair that it names.
-pub fn push_refused(text: &mut String, refusal: Refusal, pair: Option<u8>) -> fmt::Result
+pub fn push_refused(text: &mut String, refusal: Refusal, pair: Option<u8>) -> Result<(), AllocError>
     ensures { OnOk result (string_bytes text.new ≡ string_bytes text.old ++ refused_line refusal pair) }
 {
     let number = refusal.number();
@@ -27,13 +27,19 @@ pub fn push_refused(text: &mut String, refusal: Refusal, pair: Option<u8>) -> fm
     }
 }
 
-fn push_team(text: &mut String, team: u8) -> fmt::Result
+fn push_team(text: &mut String, team: u8) -> Result<(), AllocError>
     ensures { OnOk result (string_bytes text.new ≡ string_bytes text.old ++ team_line team) }
 {
     write!(text, "TEAM {team}\n")
 }
 
-fn push_round(text: &mut String, round: usize, table: u8, venue: u8, opponent: u8) -> fmt::Result
+fn push_round(
+    text: &mut String,
+    round: usize,
+    table: u8,
+    venue: u8,
+    opponent: u8,
+) -> Result<(), AllocError>
     ensures { OnOk result (string_bytes text.new ≡ string_bytes text.old ++ round_line round table venue opponent) }
 {
     write!(
@@ -43,7 +49,7 @@ fn push_round(text: &mut String, round: usize, table: u8, venue: u8, opponent: u
 }
 
 // The card of a team: its head, and a line for each round.
-pub fn push_card(text: &mut String, team: u8, card: &[u8]) -> fmt::Result
+pub fn push_card(text: &mut String, team: u8, card: &[u8]) -> Result<(), AllocError>
     ensures { OnOk result (string_bytes text.new ≡ string_bytes text.old ++ card_text team card.now) }
 {
     push_team(text, team)?;
@@ -60,7 +66,7 @@ pub fn push_card(text: &mut String, team: u8, card: &[u8]) -> fmt::Result
 }
 
 // The last line.
-pub fn push_summary(text: &mut String, side: u8, letter: u8) -> fmt::Result
+pub fn push_summary(text: &mut String, side: u8, letter: u8) -> Result<(), AllocError>
     ensures { OnOk result (string_bytes text.new ≡ string_bytes text.old ++ summary_line side letter) }
 {
     let n = side as u32;

@@ -3,11 +3,11 @@ ghost use Rattle.std.specs.Prelude.{◌≡◌, ◌++◌, string_bytes, OnOk};
 ghost use Rattle.sheet_check.specs.Texts.{accepted_line, part, refused_line};
 
 use sheets::fault::Fault;
-use std::fmt;
+use std::alloc::AllocError;
 use std::fmt::Write;
 
 // The bytes are the sheet of a Room square of this side.
-pub fn push_accepted(text: &mut String, side: u8) -> fmt::Result
+pub fn push_accepted(text: &mut String, side: u8) -> Result<(), AllocError>
     ensures { OnOk result (string_bytes text.new ≡ string_bytes text.old ++ accepted_line side) }
 {
     let n = side as u32;
@@ -16,7 +16,7 @@ pub fn push_accepted(text: &mut String, side: u8) -> fmt::Result
 }
 
 // A part that not every fault has.
-fn push_part(text: &mut String, name: &str, number: Option<u8>) -> fmt::Result
+fn push_part(text: &mut String, name: &str, number: Option<u8>) -> Result<(), AllocError>
     ensures { OnOk result (string_bytes text.new ≡ string_bytes text.old ++ part name.now number) }
 {
     match number {
@@ -26,7 +26,7 @@ fn push_part(text: &mut String, name: &str, number: Option<u8>) -> fmt::Result
 }
 
 // A fault: the refusal, the place and the layer, and the round and the venue where it has them.
-pub fn push_refused(text: &mut String, fault: Fault) -> fmt::Result
+pub fn push_refused(text: &mut String, fault: Fault) -> Result<(), AllocError>
     ensures { OnOk result (string_bytes text.new ≡ string_bytes text.old ++ refused_line fault) }
 {
     let number = fault.refusal.number();

@@ -1,7 +1,7 @@
 -- One round of a sheet, read back. Assumes nothing.
 --     row w k          the bytes of the cells of round r at the k venues from w on
 --     Scan rest        the rest begins with the cells of round r from some venue on, and the venue sought is not before it
-use Rattle.std.proofs.Common.{◌≡◌, ℕ, zero, suc, ◌+◌, ◌-◌, ◌*◌, ◌<◌, ◌≤◌, true, false, cond, ◌&&◌, ltb, List, [], ◌++◌, length, take, drop, Ok, sym, refl, ap, ◌∙◌, subst, inl, inr, arith}
+use Rattle.std.proofs.Common.{◌≡◌, ℕ, zero, suc, ◌+◌, ◌-◌, ◌*◌, ◌<◌, ◌≤◌, false, cond, ◌&&◌, ltb, List, [], ◌++◌, length, take, drop, Ok, sym, refl, ap, ◌∙◌, subst, inl, inr, arith}
 use Rattle.std.proofs.lemmas.List.{append_assoc, length-append, drop_at, take_rest}
 use Rattle.std.proofs.lemmas.Bool.{cases_lt, cases_eq, and_from, and_left, and_right, cond-true, cond-false, lt-ltb, le-ltb, false≢true}
 use Rattle.squares.specs.Cells.{Cell, Cells, empty, meet}

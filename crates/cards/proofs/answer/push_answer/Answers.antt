@@ -1,6 +1,6 @@
-use Rattle.std.proofs.Common.{◌≡◌, ℕ, string_bytes, refl, ap, ◌∙◌}
+use Rattle.std.proofs.Common.{ℕ, string_bytes, ap, ◌∙◌}
 use Rattle.std.proofs.lemmas.Result.{IfOk-weaker}
-use Rattle.groups.specs.Tables.{Table, cyclic, product}
+use Rattle.groups.specs.Tables.{cyclic, product}
 use Rattle.input.specs.declared.orders.Orders.TheVariants.{One, Two, Three}
 use Rattle.cards.proofs.Cards.{by_made}
 use Rattle.cards.proofs.answer.push_answer.Goals as goal

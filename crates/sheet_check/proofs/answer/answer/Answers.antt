@@ -1,14 +1,9 @@
 use Rattle.std.proofs.Common.{ℕ, List, string_bytes, sym, subst}
-use Rattle.std.proofs.lemmas.Result.{err_from_is_err_and}
 use Rattle.sheets.specs.Readings.{SideOf}
 use Rattle.sheet_check.specs.Answers.{Answer}
 use Rattle.sheet_check.proofs.Verdicts.{is_accepted, is_refused}
 use Rattle.sheet_check.proofs.answer.answer.Goals as goal
-use Rattle.sheet_check.proofs.answer.answer.Goals.{in-Ok+in_ok-push_accepted, in-Err+in_ok-push_refused}
-
-pub returns-in_err-push_accepted : goal.returns-in_err-push_accepted
-returns-in_err-push_accepted c =
-    let p = err_from_is_err_and c.from_residual.result c.from_residual.ensures.1 in rw p.1 tt
+use Rattle.sheet_check.proofs.answer.answer.Goals.{in-Ok+in_ok-push_accepted-in-Ok, in-Err+in_ok-push_refused-in-Err}
 
 pub returns : goal.returns
 returns c =
@@ -16,13 +11,13 @@ returns c =
     let start = string_bytes c.new-text.result in
     let empty = c.new-text.ensures.bytes in
     elim c.match-read.branch [
-      | in-Ok+in_ok-push_accepted w ↦
+      | in-Ok+in_ok-push_accepted-in-Ok w ↦
           let view = w.in-Ok.ensures in
           subst (λ s. Answer input (string_bytes s)) (sym w.text-is)
           (is_accepted input start (string_bytes w.push_accepted.new.text) empty w.side.result view.1
-          (subst (λ (xs : List ℕ). SideOf xs w.side.result) view.0 w.side.ensures) w.in_ok-push_accepted.ensures)
-      | in-Err+in_ok-push_refused w ↦
+          (subst (λ (xs : List ℕ). SideOf xs w.side.result) view.0 w.side.ensures) w.in_ok-push_accepted-in-Ok.ensures)
+      | in-Err+in_ok-push_refused-in-Err w ↦
           subst (λ s. Answer input (string_bytes s)) (sym w.text-is)
           (is_refused input start (string_bytes w.push_refused.new.text) empty w.in-Err.fault w.in-Err.ensures
-          w.in_ok-push_refused.ensures)
+          w.in_ok-push_refused-in-Err.ensures)
     ]

@@ -3,8 +3,8 @@ use Rattle.sheets.proofs.Checking.{checked}
 use Rattle.sheets.proofs.Going.{whole_size, goes_on, no_command, refuses, ends, ends_early}
 use Rattle.sheets.proofs.check.check.Goals as goal
 
-pub overflow-sub-place : goal.overflow-sub-place
-overflow-sub-place c = omega (arith, whole_size _ _ _ c.loop-rest.invariant)
+pub overflow_sub-place : goal.overflow_sub-place
+overflow_sub-place c = omega (arith, whole_size _ _ _ c.loop-rest.invariant)
 
 pub returns-in-Err : goal.returns-in-Err
 returns-in-Err c =
