@@ -1,11 +1,10 @@
-// The check as a program written in C calls it.
+// The answer of the check in one number, as a program written in C wants it.
 ghost use Rattle.sheets.specs.Readings.{Packed};
 
 use crate::check::check;
 
 // The answer in one number: 0 where the bytes are accepted, else the refusal's number times 65,536, and the place.
-#[unsafe(no_mangle)]
-pub extern "C" fn league_check(bytes: &[u8]) -> u32
+pub fn league_check(bytes: &[u8]) -> u32
     ensures { Packed bytes.now result }
 {
     match check(bytes) {
