@@ -6,8 +6,8 @@ usage: python3 tools/respell.py    at the top of the repository, after the kit's
 A name is this repository's own where a file of specs/ or proofs/ declares it, or binds it by a let, a lambda, a case or a
 parameter, or where an import gives it as another name. A dash in it becomes an underscore, but in the names of KEPT, where
 it joins the names of two functions; an imported type or variant goes into camel case. Names that the checker makes, names
-of the library, functions of src/ and strings stay as they are. Two names that would fall together stop the script before
-it writes anything.
+of the library and functions of src/ stay as they are. Comments are respelled too. Two names that would fall together stop
+the script before it writes anything.
 """
 
 import glob

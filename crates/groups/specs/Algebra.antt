@@ -1,5 +1,10 @@
--- What follows from the laws alone: cancellation, opposites and differences, translations and reflections.
--- Assumes nothing.
+-- Lemmas: what follows from the laws of a table alone. Assumes nothing.
+--     counted_..          the number that an operand stands for is an element, and an element stands for itself
+--     cancel_..           equal sums with one equal part have equal other parts
+--     opposite_..         each element has one opposite
+--     difference_..       a − b is the one element that added to b gives a
+--     translate_..        the translation by r takes u − r to u, and nothing else to u
+--     reflection_cancel   the reflection a ↦ c − a is one-to-one
 use Rattle.std.specs.Prelude.{◌≡◌, ℕ, ◌<◌, nat_eq, nat_lt}
 use Rattle.std.proofs.Common.{inl, inr, sym, ◌∙◌, ap, subst, arith}
 use Rattle.std.proofs.lemmas.Bool.{cases_Bool, ltb-true, lt-ltb, eq-eqb, eqb-true}
@@ -74,7 +79,7 @@ module _ (g : Table) (l : Laws g) where
   pub translate_only : (u r x : ℕ) → u < g.order → r < g.order → x < g.order → g.add x r ≡ u → x ≡ difference g u r
   translate_only u r x hu hr hx e = difference_only u r x hu hr hx (l.commutative r x hr hx ∙ e)
 
-  -- the reflection a ↦ c − a is one_to_one
+  -- the reflection a ↦ c − a is one-to-one
   pub reflection_cancel : (c a b : ℕ) → c < g.order → a < g.order → b < g.order → difference g c a ≡ difference g c b → a ≡ b
   reflection_cancel c a b x y z e =
       let d : ℕ = difference g c a in

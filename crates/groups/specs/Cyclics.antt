@@ -1,4 +1,6 @@
--- The cyclic tables keep the laws. Assumes nothing.
+-- Lemmas: the cyclic tables keep the laws. Assumes nothing.
+--     cyclic_opposite     n − a, taken modulo n, is the opposite of a
+--     cyclic_laws         the cyclic table of an order that is made keeps the laws
 use Rattle.std.proofs.Common.{sym, ◌∙◌, ap, add_comm, add_assoc, zero-add, mod-lt, mod-eq_of_lt, arith}
 use Rattle.std.specs.Prelude.{◌≡◌, ℕ, ◌+◌, ◌-◌, ◌%◌, ◌<◌}
 use Rattle.std.proofs.Math.Nat.{mod-add-mod, mod_self}

@@ -1,4 +1,8 @@
--- What `lowest` finds. Assumes nothing.
+-- Lemmas: what `lowest` finds. Assumes nothing.
+--     lowest_from         it is not below where the search begins
+--     lowest_least        it is not above a number that passes
+--     lowest_passes       it passes, unless it is the end
+--     lowest_only         it is the only number that passes, where there is only one
 use Rattle.std.specs.Prelude.{◌≡◌, ℕ, zero, suc, ◌+◌, ◌<◌, ◌≤◌, Bool, true, false}
 use Rattle.std.proofs.Common.{inl, inr, subst, arith}
 use Rattle.std.proofs.lemmas.Bool.{cases_Bool, cases_eq, both_ways}

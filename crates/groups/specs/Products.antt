@@ -1,4 +1,10 @@
--- The product of two lawful tables keeps the laws. Assumes nothing.
+-- Lemmas: the product of two lawful tables keeps the laws. Assumes nothing.
+--     upper, lower        the parts of an element are elements of the two groups
+--     parts_..            the table of the parts keeps the laws, and what is opposite there
+--     product_within      up to order 127 a product is the table of its parts
+--     product_past        past 127 it is its second group
+--     product_laws        either way it keeps the laws
+--     product_sum, product_opposite   what the calls of the parts answer, put together, is what the product answers
 use Rattle.std.specs.Prelude.{◌≡◌, ℕ, ◌+◌, ◌*◌, ◌/◌, ◌%◌, ◌<◌, ◌≤◌, cond, nat_le, nat_lt}
 use Rattle.std.proofs.Common.{inl, inr, sym, ◌∙◌, ap, subst, mod-lt, mod-eq_of_lt, add-mul, mul_assoc, arith}
 use Rattle.std.proofs.Math.Nat.{div-eq_of_lt, mul-add-mod_self_left}

@@ -1,6 +1,6 @@
 -- What is read from a line is what the grammar says. Assumes nothing.
 use Rattle.std.proofs.Common.{◌≡◌, ℕ, true, false, eqb, List, [], ◌∷◌, ◌++◌, Some, None, Option, sym, refl, ap, ◌∙◌, inl, inr, append_assoc, arith}
-use Rattle.std.specs.List.{AllByRecursion as All}
+use Rattle.std.specs.List.{AllByRecursion}
 use Rattle.std.proofs.lemmas.List.{append-nil}
 use Rattle.std.proofs.lemmas.Bool.{both_ways, cases_Bool, eqb-true, eq-eqb, ne_eqb, and_from, and_parts}
 use Rattle.input.specs.Grammar.{OrdersLine, NumbersLine, last_order, next_order, no_byte, blank, last_number, next_number, OrdersLaw, NumbersLaw}
@@ -15,11 +15,11 @@ never x e = let z : ◌≡◌ {A = ℕ} 0 1 = cc in omega arith
 
 -- numerals
 
-all_true : (w : List ℕ) → All Digit w → all_digits w ≡ true
+all_true : (w : List ℕ) → AllByRecursion Digit w → all_digits w ≡ true
 all_true [] ds = refl
 all_true (c ∷ w) ds = and_from (is_digit c) (all_digits w) (digit_is c ds.0) (all_true w ds.1)
 
-all_from : (w : List ℕ) → all_digits w ≡ true → All Digit w
+all_from : (w : List ℕ) → all_digits w ≡ true → AllByRecursion Digit w
 all_from [] e = tt
 all_from (c ∷ w) e =
     let p = and_parts (is_digit c) (all_digits w) e in
@@ -45,11 +45,11 @@ module _ (s : ℕ) (no_digit : is_digit s ≡ false) where
   apart : (c : ℕ) → Digit c → eqb c s ≡ false
   apart c d = ne_eqb c s (λ e. let f : is_digit c ≡ false = rw e no_digit in both_ways (is_digit c) f (digit_is c d))
 
-  word_last : (w : List ℕ) → All Digit w → words s w ≡ w ∷ []
+  word_last : (w : List ℕ) → AllByRecursion Digit w → words s w ≡ w ∷ []
   word_last [] ds = refl
   word_last (c ∷ w) ds = rw (apart c ds.0, word_last w ds.1)
 
-  word_next : (w rest : List ℕ) → All Digit w → words s (w ++ (s ∷ rest)) ≡ w ∷ words s rest
+  word_next : (w rest : List ℕ) → AllByRecursion Digit w → words s (w ++ (s ∷ rest)) ≡ w ∷ words s rest
   word_next [] rest ds = rw (eq-eqb s s refl)
   word_next (c ∷ w) rest ds = rw (apart c ds.0, word_next w rest ds.1)
 

@@ -4,14 +4,14 @@
 --     NoLine bytes                no line ends in the bytes
 --     LastLine bytes w            the bytes are the line w alone, with or without its line feed
 use Rattle.std.specs.Prelude.{◌≡◌, ℕ, ◌⊎◌, List, [], ◌∷◌, ◌++◌, refl}
-use Rattle.std.specs.List.{AllByRecursion as All}
+use Rattle.std.specs.List.{AllByRecursion}
 use Rattle.std.proofs.lemmas.Bool.{eqb-false}
 
 abbrev pub Ends : ℕ → Type 0
 Ends c = c ≡ 0x0a
 
 abbrev pub NoLine : List ℕ → Type 0
-NoLine bytes = All (λ c. Ends c → ⊥) bytes
+NoLine bytes = AllByRecursion (λ c. Ends c → ⊥) bytes
 
 pub record FirstLine (bytes w rest : List ℕ) : Type 0 where
   pub whole : bytes ≡ w ++ (0x0a ∷ rest)

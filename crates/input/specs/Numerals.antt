@@ -8,7 +8,7 @@
 --     numeral_of w        the value of the word w, or None where w is no numeral
 use Rattle.std.specs.Prelude.{◌≡◌, ℕ, ◌-◌, ◌≤◌, min, Bool, true, cond, ◌&&◌, List, [], ◌∷◌, map, Some, None, codes, Option, nat_le, refl}
 use Rattle.std.specs.Int.Digits.{number_from_digits}
-use Rattle.std.specs.List.{AllByRecursion as All}
+use Rattle.std.specs.List.{AllByRecursion}
 
 abbrev pub Digit : ℕ → Type 0
 Digit c = (0x30 ≤ c) × (c ≤ 0x39)
@@ -24,7 +24,7 @@ value_of w = min (number_from_digits 10 (map digit_of w)) 255
 
 pub record Numeral (w : List ℕ) (v : ℕ) : Type 0 where
   pub not_empty : w ≡ [] → ⊥
-  pub digits : All Digit w
+  pub digits : AllByRecursion Digit w
   pub value : v ≡ value_of w
 
 abbrev pub all_digits : List ℕ → Bool

@@ -1,4 +1,6 @@
 -- A test that passes for all numbers below n passes at each of them. Assumes nothing.
+--     every p n           the test p passes for all numbers below n
+--     each                a lemma: then it passes at each of them
 use Rattle.std.specs.Prelude.{◌≡◌, ℕ, zero, suc, ◌<◌, Bool, true, ◌&&◌}
 use Rattle.std.proofs.Common.{inl, inr, subst, arith}
 use Rattle.std.proofs.lemmas.Bool.{and_parts, cases_eq}

@@ -1,4 +1,8 @@
--- The table of seven keeps the laws: each law is one test over all entries, which the checker computes. Assumes nothing.
+-- Lemmas: the table of seven keeps the laws. Each law is one test over all entries, which the checker computes.
+-- Assumes nothing.
+--     negative a          the opposite of a, as the code has it
+--     seven_opposite      it is the opposite
+--     seven_laws          the table keeps the laws
 use Rattle.std.specs.Prelude.{◌≡◌, ℕ, ◌<◌, Bool, true, ◌&&◌, ltb, [], ◌∷◌, ◌==◌, nat_eq, nat_lt, slice_index, refl}
 use Rattle.std.proofs.Common.{lit≤}
 use Rattle.std.proofs.lemmas.Bool.{and_parts, eqb-true, ltb-true}
