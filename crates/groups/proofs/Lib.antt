@@ -1,1 +1,2 @@
 pub mod Pigeonhole
+pub mod Products

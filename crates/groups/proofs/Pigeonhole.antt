@@ -2,8 +2,10 @@
 --     Within f k m       the values of f below k are below m
 --     OneToOne f k       f takes no value twice below k
 --     Reaches f k v      f takes the value v below k
-use Rattle.std.proofs.Common.{◌≡◌, ℕ, zero, suc, ◌+◌, ◌-◌, ◌<◌, ◌≤◌, cond, eqb, ◌≢◌, ◌⊎◌, List, length, get_or, sym, refl, ap, ◌∙◌, subst, inl, inr, arith}
-use Rattle.std.proofs.lemmas.Bool.{cases_lt, cases_eq, eq-eqb, eqb-true, ne_eqb}
+use Rattle.std.proofs.Common.{◌≡◌, ℕ, zero, suc, ◌+◌, ◌-◌, ◌<◌, ◌≤◌, true, false, true≢false, Bool, [], ◌∷◌, eqb, ◌≢◌, ◌⊎◌, List, length, get_or, sym, refl, ap, ◌∙◌, subst, inl, inr, arith}
+use Rattle.std.proofs.lemmas.Bool.{cases_lt, eq-eqb, eqb-true, or_cases, or_parts, false_from_ne_true}
+use Rattle.std.proofs.lemmas.Map.Steps.{length-le_from_distinct_below}
+use Rattle.std.specs.List.{AllByRecursion, IsDistinct, list_any}
 use Rattle.groups.specs.Numbers.{Once, Different, lowest}
 use Rattle.groups.specs.Lowest.{lowest_least, lowest_passes}
 
@@ -16,46 +18,45 @@ OneToOne f k = (i j : ℕ) → i < k → j < k → f i ≡ f j → i ≡ j
 abbrev pub Reaches : (ℕ → ℕ) → ℕ → ℕ → Type 0
 Reaches f k v = (i : ℕ) × (i < k) × (f i ≡ v)
 
--- f with the value v wherever it has the value m
-abbrev turned : (ℕ → ℕ) → ℕ → ℕ → ℕ → ℕ
-turned f m v i = cond (eqb (f i) m) v (f i)
+-- the values of f below k, that of the last place first
+abbrev values : (ℕ → ℕ) → ℕ → List ℕ
+values f zero = []
+values f (suc k) = f k ∷ values f k
 
-turned_at : (f : ℕ → ℕ) (m v i : ℕ) → f i ≡ m → turned f m v i ≡ v
-turned_at f m v i e = simp (eq-eqb (f i) m e)
+length-values : (f : ℕ → ℕ) (k : ℕ) → length (values f k) ≡ k
+length-values f zero = refl
+length-values f (suc k) = omega (arith, length-values f k)
 
-turned_off : (f : ℕ → ℕ) (m v i : ℕ) → (f i ≡ m → ⊥) → turned f m v i ≡ f i
-turned_off f m v i o = simp (ne_eqb (f i) m o)
+reached : (f : ℕ → ℕ) (k v : ℕ) → list_any (eqb v) (values f k) ≡ true → Reaches f k v
+reached f zero v h = absurd (true≢false (sym h))
+reached f (suc k) v h =
+    elim (or_cases (eqb v (f k)) (list_any (eqb v) (values f k)) h) [
+      | inl e ↦ (k, omega arith, sym (eqb-true v (f k) e))
+      | inr e ↦ let r = reached f k v e in (r.0, omega (arith, r.1), r.2)
+    ]
+
+absent : (v : ℕ) (xs : List ℕ) → list_any (eqb v) xs ≡ false → AllByRecursion (λ y. eqb v y ≡ false) xs
+absent v [] h = tt
+absent v (x ∷ xs) h = let parts = or_parts (eqb v x) (list_any (eqb v) xs) h in (parts.0, absent v xs parts.1)
+
+one_more : (v : ℕ) (xs : List ℕ) → list_any (eqb v) xs ≡ false → IsDistinct eqb xs → IsDistinct eqb (v ∷ xs)
+unfolding IsDistinct
+one_more v xs h d = (absent v xs h, d)
+
+distinct : (f : ℕ → ℕ) (k : ℕ) → OneToOne f k → IsDistinct eqb (values f k)
+unfolding IsDistinct
+distinct f zero o = tt
+distinct f (suc k) o =
+    let new = false_from_ne_true (list_any (eqb (f k)) (values f k))
+    (λ t. let r = reached f k (f k) t in omega (arith, o r.0 k (omega (arith, r.1)) (omega arith) r.2, r.1)) in
+    one_more (f k) (values f k) new (distinct f k (λ i j x y e. o i j (omega arith) (omega arith) e))
 
 -- different values below m are at most m
 pub at_most : (k m : ℕ) (f : ℕ → ℕ) → Within f k m → OneToOne f k → k ≤ m
-at_most zero m f w o = omega arith
-at_most (suc k) zero f w o = absurd (omega (arith, w k (omega arith)))
-at_most (suc k) (suc m) f w o =
-    let v : ℕ = f k in
-    let g : ℕ → ℕ = turned f m v in
-    let last : (i : ℕ) → i < k → f i ≡ v → ⊥ = λ i h e. omega (arith, o i k (omega arith) (omega arith) e) in
-    let within : Within g k m = λ i h.
-    elim (cases_eq (f i) m) [
-      | inl e ↦
-          let ne : v ≢ m = λ x. last i h (e ∙ sym x) in
-          let le = w k (omega arith) in
-          subst (λ (x : ℕ). x < m) (sym (turned_at f m v i e)) (omega arith)
-      | inr n ↦ let le = w i (omega arith) in subst (λ (x : ℕ). x < m) (sym (turned_off f m v i n)) (omega arith)
-    ] in
-    let apart : OneToOne g k = λ i j hi hj e.
-    elim (cases_eq (f i) m) [
-      | inl x ↦
-          elim (cases_eq (f j) m) [
-            | inl y ↦ o i j (omega arith) (omega arith) (x ∙ sym y)
-            | inr y ↦ absurd (last j hj (sym (sym (turned_at f m v i x) ∙ e ∙ turned_off f m v j y)))
-          ]
-      | inr x ↦
-          elim (cases_eq (f j) m) [
-            | inl y ↦ absurd (last i hi (sym (turned_off f m v i x) ∙ e ∙ turned_at f m v j y))
-            | inr y ↦ o i j (omega arith) (omega arith) (sym (turned_off f m v i x) ∙ e ∙ turned_off f m v j y)
-          ]
-    ] in
-    omega (arith, at_most k m g within apart)
+at_most k m f w o =
+    let few = length-le_from_distinct_below (values f k) m (distinct f k o)
+    (λ v h. let r = reached f k v h in subst (λ (x : ℕ). x < m) r.2 (w r.0 r.1)) in
+    omega (arith, few, length-values f k)
 
 -- the same where a relation R gives each place a value: places with a common value are one place
 module _ (k m : ℕ) (R : ℕ → ℕ → Type 0) (valued : (i : ℕ) → i < k → (v : ℕ) × (v < m) × R i v) where
@@ -74,54 +75,23 @@ module _ (k m : ℕ) (R : ℕ → ℕ → Type 0) (valued : (i : ℕ) → i < k 
       at_most k m f (λ i h. (value_related i h (cases_lt i k)).0)
       (λ i j x y e. apart i j (f i) x y (value_related i x (cases_lt i k)).1 (subst (R j) (sym e) (value_related j y (cases_lt j k)).1))
 
--- a value is reached or not
-pub reaches_or_not : (f : ℕ → ℕ) (k v : ℕ) → Reaches f k v ⊎ (Reaches f k v → ⊥)
-reaches_or_not f zero v = inr (λ r. omega (arith, r.1))
-reaches_or_not f (suc k) v =
-    elim (cases_eq (f k) v) [
-      | inl e ↦ inl (k, omega arith, e)
-      | inr n ↦
-          elim (reaches_or_not f k v) [
-            | inl r ↦ inl (r.0, omega (arith, r.1), r.2)
-            | inr no_one ↦ inr (λ r.
-                elim (cases_eq r.0 k) [
-                  | inl last ↦ n (ap f (sym last) ∙ r.2)
-                  | inr other ↦ no_one (r.0, omega (arith, r.1), r.2)
-                ])
-          ]
-    ]
+-- k different values below k are all of them: one more would be one too many
+module _ (k : ℕ) (f : ℕ → ℕ) (within : Within f k k) (apart : OneToOne f k) (v : ℕ) (below : v < k) where
+  below_all : (w : ℕ) → list_any (eqb w) (v ∷ values f k) ≡ true → w < k
+  below_all w h =
+      elim (or_cases (eqb w v) (list_any (eqb w) (values f k)) h) [
+        | inl e ↦ omega (arith, eqb-true w v e)
+        | inr e ↦ let r = reached f k w e in omega (arith, within r.0 r.1, r.2)
+      ]
 
--- k different values below k are all of them
-pub reaches_all : (k : ℕ) (f : ℕ → ℕ) → Within f k k → OneToOne f k → (v : ℕ) → v < k → Reaches f k v
-reaches_all k f w o v h =
-    elim (reaches_or_not f k v) [
-      | inl r ↦ r
-      | inr never ↦
-          -- f with v as one value more
-          let g : ℕ → ℕ = λ i. cond (eqb i k) v (f i) in
-          let new : g k ≡ v = simp (eq-eqb k k refl) in
-          let old : (i : ℕ) → i < k → g i ≡ f i = λ i x. simp (ne_eqb i k (λ e. omega arith)) in
-          let within : Within g (suc k) k = λ i x.
-          elim (cases_eq i k) [
-            | inl e ↦ subst (λ (y : ℕ). y < k) (sym (ap g e ∙ new)) h
-            | inr n ↦ let y : i < k = omega arith in subst (λ (z : ℕ). z < k) (sym (old i y)) (w i y)
-          ] in
-          let apart : OneToOne g (suc k) = λ i j x y e.
-          elim (cases_eq i k) [
-            | inl a ↦
-                elim (cases_eq j k) [
-                  | inl b ↦ a ∙ sym b
-                  | inr b ↦ let z : j < k = omega arith in absurd (never (j, z, sym (old j z) ∙ sym e ∙ ap g a ∙ new))
-                ]
-            | inr a ↦
-                let z : i < k = omega arith in
-                elim (cases_eq j k) [
-                  | inl b ↦ absurd (never (i, z, sym (old i z) ∙ e ∙ ap g b ∙ new))
-                  | inr b ↦ let u : j < k = omega arith in o i j z u (sym (old i z) ∙ e ∙ old j u)
-                ]
-          ] in
-          absurd (omega (arith, at_most (suc k) k g within apart))
-    ]
+  reached_by : (b : Bool) → list_any (eqb v) (values f k) ≡ b → Reaches f k v
+  reached_by true h = reached f k v h
+  reached_by false h =
+      let few = length-le_from_distinct_below (v ∷ values f k) k (one_more v (values f k) h (distinct f k apart)) below_all in
+      absurd (omega (arith, few, length-values f k))
+
+  pub reaches_all : Reaches f k v
+  reaches_all = reached_by (list_any (eqb v) (values f k)) refl
 
 -- n different numbers up to n, none of them u, are all numbers up to n but u
 module _ (n u : ℕ) (f : ℕ → ℕ) (below : u ≤ n) (within : Within f n (suc n)) (never : (i : ℕ) → i < n → f i ≢ u)

@@ -4,15 +4,13 @@
 --     product_within      up to order 127 a product is the table of its parts
 --     product_past        past 127 it is its second group
 --     product_laws        either way it keeps the laws
---     product_sum, product_opposite   what the calls of the parts answer, put together, is what the product answers
-use Rattle.std.specs.Prelude.{◌≡◌, ℕ, ◌+◌, ◌*◌, ◌/◌, ◌%◌, ◌<◌, ◌≤◌, cond, nat_le, nat_lt}
+use Rattle.std.specs.Prelude.{◌≡◌, ℕ, ◌+◌, ◌*◌, ◌/◌, ◌%◌, ◌<◌, ◌≤◌, nat_le}
 use Rattle.std.proofs.Common.{inl, inr, sym, ◌∙◌, ap, subst, mod-lt, mod-eq_of_lt, add-mul, mul_assoc, arith}
 use Rattle.std.proofs.Math.Nat.{div-eq_of_lt, mul-add-mod_self_left}
 use Rattle.std.proofs.Math.Arith.{digits_lt, digits_div, digits_mod}
 use Rattle.std.proofs.lemmas.Nat.{div_below, div-add-mod', mul-le}
 use Rattle.std.proofs.lemmas.Bool.{cases_lt, le-leb, lt-leb, cond-true, cond-false}
-use Rattle.groups.specs.Tables.{Table, Laws, Opposite, counted, parts, product}
-use Rattle.groups.specs.Algebra.{some as some_of, counted_is, counted_below}
+use Rattle.groups.specs.Tables.{Table, Laws, Opposite, parts, product}
 
 -- odd times odd is odd
 odd_mul : (a b : ℕ) → a % 2 ≡ 1 → b % 2 ≡ 1 → (a * b) % 2 ≡ 1
@@ -93,54 +91,3 @@ module _ (g h : Table) (lg : Laws g) (lh : Laws h) where
         | inl more ↦ subst Laws (sym (product_past more)) lh
         | inr most ↦ subst Laws (sym (product_within most)) (parts_laws most)
       ]
-
-  -- The calls of the two parts put together, as the code has them: m and k are the two orders, A and B the operands
-  -- as they count.
-  module _ (m k : ℕ) (em : m ≡ g.order) (ek : k ≡ h.order) (fits : m * k ≤ 127) where
-    most : g.order * h.order ≤ 127
-    most = rw (em, ek) at fits
-
-    operand : (a A : ℕ) → A ≡ cond (nat_lt a (m * k)) a 0 → A ≡ counted (parts g h) a
-    operand a A e = cc
-
-    operand_below : (a A : ℕ) → A ≡ cond (nat_lt a (m * k)) a 0 → A < g.order * h.order
-    operand_below a A e =
-        subst (λ (s : ℕ). s < g.order * h.order) (sym (operand a A e)) (counted_below (parts g h) a (some_of (parts g h) (parts_laws most)))
-
-    pub product_sum : (a b A B p q : ℕ) → A ≡ cond (nat_lt a (m * k)) a 0 → B ≡ cond (nat_lt b (m * k)) b 0
-        → p ≡ g.add (counted g (A / k)) (counted g (B / k)) → q ≡ h.add (counted h (A % k)) (counted h (B % k))
-        → (p * k + q < 128) × (p * k + q ≡ (product g h).add (counted (product g h) a) (counted (product g h) b))
-    product_sum a b A B p q eA eB ep eq =
-        let x = operand_below a A eA in
-        let y = operand_below b B eB in
-        let oA = operand a A eA in
-        let oB = operand b B eB in
-        let c1 = counted_is g (A / h.order) (upper A x) in
-        let c2 = counted_is g (B / h.order) (upper B y) in
-        let c3 = counted_is h (A % h.order) (lower A) in
-        let c4 = counted_is h (B % h.order) (lower B) in
-        let joined : p * k + q ≡ (parts g h).add A B = cc in
-        let small = (parts_laws most).closed A B x y in
-        let all = most in (
-          omega arith,
-          joined
-              ∙ ap (λ (s : ℕ). (parts g h).add s B) oA ∙ ap (λ (s : ℕ). (parts g h).add (counted (parts g h) a) s) oB
-              ∙ ap (λ (t : Table). t.add (counted t a) (counted t b)) (sym (product_within most)),
-        )
-
-    pub product_opposite : (a A p q : ℕ) → A ≡ cond (nat_lt a (m * k)) a 0
-        → Opposite g (counted g (A / k)) p → Opposite h (counted h (A % k)) q
-        → (p * k + q < 128) × Opposite (product g h) (counted (product g h) a) (p * k + q)
-    product_opposite a A p q eA op oq =
-        let x = operand_below a A eA in
-        let c1 : counted g (A / k) ≡ A / h.order = ap (λ (s : ℕ). counted g (A / s)) ek ∙ counted_is g (A / h.order) (upper A x) in
-        let c2 : counted h (A % k) ≡ A % h.order = ap (λ (s : ℕ). counted h (A % s)) ek ∙ counted_is h (A % h.order) (lower A) in
-        let o : Opposite (parts g h) A (p * k + q) =
-        subst (λ (s : ℕ). Opposite (parts g h) A (p * s + q)) (sym ek)
-        (parts_opposite A p q x (subst (λ (s : ℕ). Opposite g s p) c1 op) (subst (λ (s : ℕ). Opposite h s q) c2 oq)) in
-        let small = o.0 in
-        let all = most in (
-          omega arith,
-          subst (λ (t : Table). Opposite t (counted t a) (p * k + q)) (sym (product_within most))
-              (subst (λ (s : ℕ). Opposite (parts g h) s (p * k + q)) (operand a A eA) o),
-        )

@@ -4,7 +4,7 @@ ghost use Rattle.groups.specs.Tables.{OddOrder, cyclic};
 ghost use Rattle.groups.specs.declared.refusal.Refusal.TheVariants.{Order};
 ghost use Rattle.groups.specs.Cyclics.{cyclic_laws};
 
-use crate::group::{Group, count};
+use crate::group::{Group, count, is_order};
 use crate::refusal::Refusal;
 
 #[derive(Clone, Copy)]
@@ -20,7 +20,7 @@ impl Cyclic {
     pub fn new(order: u8) -> Result<Cyclic, Refusal>
         ensures { MatchResult result (λ g. (g.order ≡ order) × OddOrder order) (λ e. (e ≡ Order) × (OddOrder order → ⊥)) }
     {
-        if order % 2 == 1 && order >= 3 && order <= 127 {
+        if is_order(order) {
             Ok(Cyclic { order })
         } else {
             Err(Refusal::Order)
@@ -31,9 +31,9 @@ impl Cyclic {
 impl Group for Cyclic {
     const LETTER: u8 = b'C';
 
-    ghost table = { λ g. cyclic g.order };
+    ghost LETTER = { 67 };
 
-    ghost kind = { 67 };
+    ghost table = { λ g. cyclic g.order };
 
     ghost laws = { λ g. cyclic_laws g.order (g.odd, g.least, g.most) };
 
@@ -47,9 +47,5 @@ impl Group for Cyclic {
 
     fn opposite(&self, a: u8) -> u8 {
         (self.order - count(a, self.order)) % self.order
-    }
-
-    fn kind_letter(&self) -> u8 {
-        Self::LETTER
     }
 }

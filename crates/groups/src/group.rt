@@ -1,16 +1,15 @@
 // What every kind of group offers, and the laws that it shows.
-ghost use Rattle.std.specs.Prelude.{◌≡◌, ℕ, if◌then◌else◌, nat_lt};
-ghost use Rattle.groups.specs.Tables.{Table, Laws, Opposite, counted, difference};
+ghost use Rattle.std.specs.Prelude.{◌≡◌, ◌↔◌, ℕ, if◌then◌else◌, nat_lt, IsTrue};
+ghost use Rattle.groups.specs.Tables.{Table, Laws, OddOrder, Opposite, counted, difference};
 
 pub trait Group {
-    // The letter of the kind, which the page prints.
+    // The letter of the kind, which the page prints. No enum lists the letters: a kind from elsewhere has its own.
     const LETTER: u8;
+
+    ghost LETTER: { ℕ };
 
     // What a value means: its order and its table of sums.
     ghost table: { Self → Table };
-
-    // What the letter is.
-    ghost kind: { ℕ };
 
     fn order(&self) -> u8
         ensures { result ≡ (table self.now).order };
@@ -23,16 +22,19 @@ pub trait Group {
     fn opposite(&self, a: u8) -> u8
         ensures { Opposite (table self.now) (counted (table self.now) a) result };
 
-    // The letter of the kind, for generic code: a contract cannot name the constant LETTER.
+    // The letter of the kind, of a value at hand.
     fn kind_letter(&self) -> u8
-        ensures { result ≡ kind };
+        ensures { result ≡ LETTER }
+    {
+        Self::LETTER
+    }
 
     ghost laws: { (g : Self) → Laws (table g) };
 }
 
 // The difference a - b. An operand of the order or more counts as 0.
 pub fn minus<G: Group>(group: &G, a: u8, b: u8) -> u8
-    ensures { result ≡ difference (G.Group.table group.now) (counted (G.Group.table group.now) a) (counted (G.Group.table group.now) b) }
+    ensures { result ≡ difference (G.table group.now) (counted (G.table group.now) a) (counted (G.table group.now) b) }
 {
     group.sum(a, group.opposite(b))
 }
@@ -42,4 +44,11 @@ pub fn count(a: u8, n: u8) -> u8
     ensures { result ≡ (if nat_lt a n then a else 0) }
 {
     if a < n { a } else { 0 }
+}
+
+// Whether a number is the order of a group that is made: odd and from 3 to 127.
+pub fn is_order(n: u8) -> bool
+    ensures { IsTrue result ↔ OddOrder n }
+{
+    n % 2 == 1 && (3..=127).contains(&n)
 }

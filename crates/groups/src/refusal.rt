@@ -1,47 +1,50 @@
 // Every refusal of the product, one for each question that a call asks.
-ghost use Rattle.std.specs.Prelude.{◌≡◌};
+ghost use Rattle.std.specs.Prelude.{◌≡◌, Some, decimal};
 ghost use Rattle.groups.specs.Refusals.{number_of};
 
-#[derive(Clone, Copy, Debug)]
+use std::fmt;
+
+// Each variant has the number of its question.
+#[derive(Clone, Copy, Debug, PartialEq, Eq)]
 pub enum Refusal {
     // making: is the order odd and from 3 to 127?
-    Order,
+    Order = 1,
     // run: is the allowance from 1 to 1,000,000?
-    Allowance,
+    Allowance = 5,
     // run: were fewer than 60,000 starters handed out since the last restart?
-    Exhausted,
+    Exhausted = 6,
     // show, sheet, page: was a starter handed out since the last restart?
-    NoStarter,
+    NoStarter = 7,
     // every writer: is the caller's place long enough?
-    Place,
+    Place = 8,
     // claim, card: are there exactly n - 1 bytes?
-    Length,
+    Length = 9,
     // claim, card: is each number from 1 to n - 1, and each there once?
-    Numbers,
+    Numbers = 10,
     // claim, card: are all differences, in both directions, different?
-    Differences,
+    Differences = 11,
     // claim, card: are all sums nonzero and different?
-    Sums,
+    Sums = 12,
     // reading: is the byte a command?
-    Command,
+    Command = 13,
     // reading: are the operands there, or, where the bytes stop, was END read?
-    Operands,
+    Operands = 14,
     // reading, typing: may the command stand here?
-    Turn,
+    Turn = 15,
     // reading, typing: are the operands in range and order?
-    Range,
+    Range = 16,
     // reading, typing: has neither team played this round?
-    Round,
+    Round = 17,
     // reading: has neither team played at this venue?
-    Venue,
+    Venue = 18,
     // reading: have the two teams not met?
-    Met,
+    Met = 19,
     // reading: have all teams played this round?
-    Idle,
+    Idle = 20,
     // reading: is the count that of all meetings?
-    Count,
+    Count = 21,
     // card: is the team from 0 to n?
-    Team,
+    Team = 22,
 }
 
 impl Refusal {
@@ -49,26 +52,16 @@ impl Refusal {
     pub fn number(&self) -> u8
         ensures { result ≡ number_of self.now }
     {
-        match self {
-            Refusal::Order => 1,
-            Refusal::Allowance => 5,
-            Refusal::Exhausted => 6,
-            Refusal::NoStarter => 7,
-            Refusal::Place => 8,
-            Refusal::Length => 9,
-            Refusal::Numbers => 10,
-            Refusal::Differences => 11,
-            Refusal::Sums => 12,
-            Refusal::Command => 13,
-            Refusal::Operands => 14,
-            Refusal::Turn => 15,
-            Refusal::Range => 16,
-            Refusal::Round => 17,
-            Refusal::Venue => 18,
-            Refusal::Met => 19,
-            Refusal::Idle => 20,
-            Refusal::Count => 21,
-            Refusal::Team => 22,
-        }
+        *self as u8
+    }
+}
+
+// A refusal is shown by its number.
+impl fmt::Display for Refusal {
+    ghost output = { λ refusal. Some (decimal (number_of refusal)) };
+
+    fn fmt<W: fmt::Write>(&self, f: &mut fmt::Formatter<W>) -> fmt::Result {
+        let number = self.number();
+        write!(f, "{number}")
     }
 }

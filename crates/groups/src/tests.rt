@@ -11,10 +11,7 @@ fn orders_made_and_refused(rt: HostRuntime) -> Result<(), Fail> {
     assert_eq!(rt; Cyclic::new(3)?.order(), 3);
     assert_eq!(rt; Cyclic::new(127)?.order(), 127);
     for order in [0, 1, 8, 128, 129, 255] {
-        let Err(refusal) = Cyclic::new(order) else {
-            return Err(Fail::new("a group of a wrong order"));
-        };
-        assert_eq!(rt; refusal.number(), 1);
+        assert_eq!(rt; Cyclic::new(order).err(), Some(Refusal::Order));
     }
     Ok(())
 }
@@ -88,14 +85,15 @@ fn product_past_127(rt: HostRuntime) -> Result<(), Fail> {
         Product::new(Cyclic::new(5)?, Cyclic::new(25)?)?.order(),
         125
     );
-    let Err(refusal) = Product::new(Cyclic::new(11)?, Cyclic::new(13)?) else {
-        return Err(Fail::new("a product of order 143"));
-    };
-    assert_eq!(rt; refusal.number(), 1);
-    let Err(refusal) = Product::new(Cyclic::new(3)?, Cyclic::new(43)?) else {
-        return Err(Fail::new("a product of order 129"));
-    };
-    assert_eq!(rt; refusal.number(), 1);
+    // They would have the orders 143 and 129.
+    assert_eq!(rt;
+        Product::new(Cyclic::new(11)?, Cyclic::new(13)?).err(),
+        Some(Refusal::Order)
+    );
+    assert_eq!(rt;
+        Product::new(Cyclic::new(3)?, Cyclic::new(43)?).err(),
+        Some(Refusal::Order)
+    );
     Ok(())
 }
 
@@ -125,4 +123,11 @@ fn numbers_of_the_refusals(rt: HostRuntime) {
     for (refusal, number) in all {
         assert_eq!(rt; refusal.number(), number);
     }
+}
+
+#[test]
+fn a_refusal_is_shown_by_its_number(rt: HostRuntime) -> Result<(), Fail> {
+    let text = Refusal::Team.to_string(rt.alloc())?;
+    assert_eq!(rt; text.as_str(), "22");
+    Ok(())
 }

@@ -2,8 +2,7 @@
 --     every p n           the test p passes for all numbers below n
 --     each                a lemma: then it passes at each of them
 use Rattle.std.specs.Prelude.{◌≡◌, ℕ, zero, suc, ◌<◌, Bool, true, ◌&&◌}
-use Rattle.std.proofs.Common.{inl, inr, subst, arith}
-use Rattle.std.proofs.lemmas.Bool.{and_parts, cases_eq}
+use Rattle.std.proofs.Common.{arith}
 
 -- the test p passes for all numbers below n
 abbrev pub every : (ℕ → Bool) → ℕ → Bool
@@ -12,9 +11,4 @@ every p (suc n) = p n && every p n
 
 pub each : (p : ℕ → Bool) (n : ℕ) → every p n ≡ true → (a : ℕ) → a < n → p a ≡ true
 each p zero t a h = absurd (omega arith)
-each p (suc n) t a h =
-    let both = and_parts (p n) (every p n) t in
-    elim (cases_eq n a) [
-      | inl same ↦ subst (λ (x : ℕ). p x ≡ true) same both.0
-      | inr other ↦ each p n both.1 a (omega arith)
-    ]
+each p (suc n) t a h = grind (arith, each p n)

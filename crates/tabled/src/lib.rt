@@ -6,10 +6,15 @@ ghost use Rattle.tabled.specs.Sevens.{seven_laws};
 
 use groups::group::{Group, count};
 
-// The sum of a and b stands at place 7 * a + b.
-const SUMS: [u8; 49] = [
-    0, 1, 2, 3, 4, 5, 6, 1, 4, 6, 2, 5, 3, 0, 2, 6, 5, 4, 0, 1, 3, 3, 2, 4, 1, 6, 0, 5, 4, 5, 0, 6,
-    3, 2, 1, 5, 3, 1, 0, 2, 6, 4, 6, 0, 3, 5, 1, 4, 2,
+// The sum of a and b stands at place b of row a.
+const SUMS: [[u8; 7]; 7] = [
+    [0, 1, 2, 3, 4, 5, 6],
+    [1, 4, 6, 2, 5, 3, 0],
+    [2, 6, 5, 4, 0, 1, 3],
+    [3, 2, 4, 1, 6, 0, 5],
+    [4, 5, 0, 6, 3, 2, 1],
+    [5, 3, 1, 0, 2, 6, 4],
+    [6, 0, 3, 5, 1, 4, 2],
 ];
 
 // The opposite of a stands at place a, so that no row is searched.
@@ -22,9 +27,9 @@ pub struct Tabled;
 impl Group for Tabled {
     const LETTER: u8 = b'T';
 
-    ghost table = { λ _. seven };
+    ghost LETTER = { 84 };
 
-    ghost kind = { 84 };
+    ghost table = { λ _. seven };
 
     ghost laws = { λ g. seven_laws };
 
@@ -33,15 +38,11 @@ impl Group for Tabled {
     }
 
     fn sum(&self, a: u8, b: u8) -> u8 {
-        SUMS[7 * count(a, 7) as usize + count(b, 7) as usize]
+        SUMS[count(a, 7) as usize][count(b, 7) as usize]
     }
 
     fn opposite(&self, a: u8) -> u8 {
         OPPOSITES[count(a, 7) as usize]
-    }
-
-    fn kind_letter(&self) -> u8 {
-        Self::LETTER
     }
 }
 
@@ -80,13 +81,10 @@ mod tests {
     }
 
     #[test]
-    fn claims_are_judged_by_its_table(rt: HostRuntime) -> Result<(), Fail> {
+    fn claims_are_judged_by_its_table(rt: HostRuntime) {
         assert!(rt; claim(&Tabled, &[2, 1, 5, 4, 6, 3]).is_ok());
         // A strong starter of the cyclic group of order 7, which numbers its elements otherwise.
-        let Err(fault) = claim(&Tabled, &[1, 3, 2, 6, 4, 5]) else {
-            return Err(Fail::new("it is accepted"));
-        };
-        assert_eq!(rt; fault.refusal.number(), Refusal::Differences.number());
-        Ok(())
+        let answer = claim(&Tabled, &[1, 3, 2, 6, 4, 5]).map_err(|fault| fault.refusal);
+        assert_eq!(rt; answer.err(), Some(Refusal::Differences));
     }
 }

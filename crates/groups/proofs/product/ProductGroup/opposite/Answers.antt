@@ -1,6 +1,6 @@
 use Rattle.std.proofs.Common.{◌+◌, ◌*◌, ◌<◌, arith}
 use Rattle.groups.specs.Tables.{Opposite, counted, product}
-use Rattle.groups.specs.Products.{product_opposite}
+use Rattle.groups.proofs.Products.{product_opposite}
 use Rattle.groups.proofs.product.ProductGroup.opposite.Given as given
 use Rattle.groups.proofs.product.ProductGroup.opposite.Goals as goal
 
@@ -12,7 +12,7 @@ joined : (g : given.Over) (c : goal.After-opposite-lower g)
 joined g c =
     let p = c.args.self.now in
     product_opposite (g.G.Group.table p.first) (g.H.Group.table p.second) (g.met.G.Group.laws p.first) (g.met.H.Group.laws p.second)
-    c.order.result c.order-k.result c.order.ensures c.order-k.ensures c.if-n-gt127.false
+    c.in-Some.n c.order-k.result c.in-Some.ensures.0 c.order-k.ensures c.in-Some.ensures.1
     c.args.a c.count-a.result c.opposite-upper.result c.opposite-lower.result
     c.count-a.ensures c.opposite-upper.ensures c.opposite-lower.ensures
 
