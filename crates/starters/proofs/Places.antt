@@ -1,6 +1,7 @@
 -- What stands at each place of the lists made from pairs. Assumes nothing.
-use Rattle.std.proofs.Common.{◌≡◌, ℕ, zero, suc, ◌+◌, ◌*◌, ◌/◌, ◌%◌, ◌<◌, ◌≤◌, ◌⊎◌, List, [], ◌∷◌, length, get_or, take, set, sym, refl, ap, ◌∙◌, inl, inr, arith}
-use Rattle.std.proofs.lemmas.List.{get_or-map, length-map, get_or-set_same, get_or-set_other, get_or-take, length-set, length-take-le, ext_get_or}
+use Rattle.std.proofs.Common.{◌≡◌, ℕ, zero, suc, ◌+◌, ◌*◌, ◌/◌, ◌%◌, ◌<◌, ◌⊎◌, List, [], ◌∷◌, ◌++◌, map, length, get_or, take, drop, sym, refl, ap, ◌∙◌, inl, inr, arith, lit<, append_assoc, zero-add}
+use Rattle.std.proofs.lemmas.List.{get_or-map, length-map, get_or-take, get_or-drop, map-append, take_more}
+use Rattle.std.specs.Simd.{first_chunks}
 use Rattle.std.proofs.lemmas.Bool.{cases_eq}
 use Rattle.groups.specs.Tables.{Table, counted}
 use Rattle.groups.specs.Algebra.{counted_is}
@@ -72,46 +73,41 @@ numbers-paired [] e = refl
 numbers-paired (x ∷ []) e = absurd (omega arith)
 numbers-paired (x ∷ (y ∷ bs)) e = ap (λ (ys : List ℕ). x ∷ (y ∷ ys)) (numbers-paired bs (omega arith))
 
--- the two lists have the same front of m numbers
-abbrev pub Agree : List ℕ → List ℕ → ℕ → Type 0
-Agree xs ys m = (j : ℕ) → j < m → get_or xs j 0 ≡ get_or ys j 0
+-- the numbers of a chunk of two
+pub chunk_at : (bs : List ℕ) (m k i : ℕ) → k < m → i < 2 → get_or (get_or (first_chunks 2 m bs) k []) i 0 ≡ get_or bs (2 * k + i) 0
+chunk_at bs zero k i h x = absurd (omega arith)
+chunk_at bs (suc m) zero i h x = get_or-take 2 bs i 0 x ∙ sym (ap (λ (j : ℕ). get_or bs j 0) (zero-add i))
+chunk_at bs (suc m) (suc k) i h x =
+    let e : 2 + (2 * k + i) ≡ 2 * suc k + i = omega arith in
+    chunk_at (drop 2 bs) m k i (omega arith) x ∙ get_or-drop 2 bs (2 * k + i) 0 ∙ ap (λ (j : ℕ). get_or bs j 0) e
 
-pub agree_more : (xs ys : List ℕ) (k v : ℕ) → k < length xs → Agree xs ys k → v ≡ get_or ys k 0 → Agree (set xs k v) ys (k + 1)
-agree_more xs ys k v h a e j x =
-    elim (cases_eq j k) [
-      | inl same ↦
-          ap (λ (i : ℕ). get_or (set xs k v) i 0) same ∙ get_or-set_same xs k v 0 h ∙ e ∙ ap (λ (i : ℕ). get_or ys i 0) (sym same)
-      | inr other ↦ get_or-set_other xs k j v 0 other ∙ a j (omega arith)
-    ]
+-- one pair more of a list of one value for each pair
+pub sums_more : (g : Table) (ps : List Pair) (k v : ℕ) (xs : List ℕ) → k < length ps → xs ≡ sums g (take k ps)
+    → v ≡ g.add (at ps k).first (at ps k).second → xs ++ (v ∷ []) ≡ sums g (take (k + 1) ps)
+sums_more g ps k v xs h e ev =
+    let f : Pair → ℕ = λ p. g.add p.first p.second in
+    rw (e, ev) (sym (ap (map f) (take_more ps k nobody h) ∙ map-append f (take k ps) (at ps k ∷ [])))
 
-pub agree_all : (xs ys : List ℕ) (m : ℕ) → length ys ≡ m → m ≤ length xs → Agree xs ys m → take m xs ≡ ys
-agree_all xs ys m e h a =
-    let l = length-take-le m xs h in
-    ext_get_or 0 (take m xs) ys (l ∙ sym e) (λ j x. let y : j < m = omega arith in get_or-take m xs j 0 y ∙ a j y)
+both-append : (f : Pair → ℕ) (ps qs : List Pair) → both f (ps ++ qs) ≡ both f ps ++ both f qs
+both-append f [] qs = refl
+both-append f (p ∷ ps) qs = ap (λ (ys : List ℕ). f p ∷ (f (flipped p) ∷ ys)) (both-append f ps qs)
 
--- one pair more of a list of two values for each pair
-pub agree_both : (f : Pair → ℕ) (ps : List Pair) (xs : List ℕ) (k x y : ℕ) → k < length ps → 2 * k + 1 < length xs
-    → Agree xs (both f ps) (2 * k) → x ≡ f (at ps k) → y ≡ f (flipped (at ps k))
-    → Agree (set (set xs (2 * k) x) (2 * k + 1) y) (both f ps) (2 * (k + 1))
-agree_both f ps xs k x y h room a ex ey =
-    let one = agree_more xs (both f ps) (2 * k) x (omega arith) a (ex ∙ sym (both_first f ps k h)) in
-    let l = length-set xs (2 * k) x in
-    let two = agree_more (set xs (2 * k) x) (both f ps) (2 * k + 1) y (omega arith) one (ey ∙ sym (both_second f ps k h)) in
-    λ j z. two j (omega arith)
+-- and of a list of two values for each pair
+pub both_more : (f : Pair → ℕ) (ps : List Pair) (k x y : ℕ) (xs : List ℕ) → k < length ps → xs ≡ both f (take k ps)
+    → x ≡ f (at ps k) → y ≡ f (flipped (at ps k)) → (xs ++ (x ∷ [])) ++ (y ∷ []) ≡ both f (take (k + 1) ps)
+both_more f ps k x y xs h e ex ey =
+    rw (append_assoc, e, ex, ey) (sym (ap (both f) (take_more ps k nobody h) ∙ both-append f (take k ps) (at ps k ∷ [])))
 
 -- the calls of a group on the numbers of a listed pair
 module _ (g : Table) (bs : List ℕ) (below : (j : ℕ) → j < length bs → get_or bs j 0 < g.order) (k : ℕ) (h : k < length bs / 2) where
-  counted_first : counted g (get_or bs (2 * k) 0) ≡ (at (paired bs) k).first
-  counted_first = counted_is g (get_or bs (2 * k) 0) (below (2 * k) (omega arith)) ∙ sym (ap (λ (p : Pair). p.first) (paired_at bs k h))
+  -- the operand that stands at place i of the chunk of the pair
+  operand : (i : ℕ) → i < 2 → counted g (get_or (get_or (first_chunks 2 (length bs / 2) bs) k []) i 0) ≡ get_or bs (2 * k + i) 0
+  operand i x = ap (counted g) (chunk_at bs (length bs / 2) k i h x) ∙ counted_is g (get_or bs (2 * k + i) 0) (below (2 * k + i) (omega arith))
 
-  counted_second : counted g (get_or bs (2 * k + 1) 0) ≡ (at (paired bs) k).second
-  counted_second = counted_is g (get_or bs (2 * k + 1) 0) (below (2 * k + 1) (omega arith)) ∙ sym (ap (λ (p : Pair). p.second) (paired_at bs k h))
+  pub counted_first : counted g (get_or (get_or (first_chunks 2 (length bs / 2) bs) k []) 0 0) ≡ (at (paired bs) k).first
+  counted_first =
+      let e : 2 * k + 0 ≡ 2 * k = omega arith in
+      operand 0 (lit< tt) ∙ ap (λ (j : ℕ). get_or bs j 0) e ∙ sym (ap (λ (p : Pair). p.first) (paired_at bs k h))
 
-  -- an operation on two operands, in both orders
-  pub on_pair : (op : ℕ → ℕ → ℕ) (d : ℕ) → d ≡ op (counted g (get_or bs (2 * k) 0)) (counted g (get_or bs (2 * k + 1) 0))
-      → d ≡ op (at (paired bs) k).first (at (paired bs) k).second
-  on_pair op d e = let a = counted_first in let b = counted_second in e ∙ ap (λ (x : ℕ). op x (counted g (get_or bs (2 * k + 1) 0))) a ∙ ap (op (at (paired bs) k).first) b
-
-  pub on_pair_flipped : (op : ℕ → ℕ → ℕ) (d : ℕ) → d ≡ op (counted g (get_or bs (2 * k + 1) 0)) (counted g (get_or bs (2 * k) 0))
-      → d ≡ op (at (paired bs) k).second (at (paired bs) k).first
-  on_pair_flipped op d e = on_pair (λ x y. op y x) d e
+  pub counted_second : counted g (get_or (get_or (first_chunks 2 (length bs / 2) bs) k []) 1 0) ≡ (at (paired bs) k).second
+  counted_second = operand 1 (lit< tt) ∙ sym (ap (λ (p : Pair). p.second) (paired_at bs k h))

@@ -41,14 +41,6 @@ pub record Below (ps : List Pair) (a : ℕ) (qs : List Pair) : Type 0 where
   pub complete : (p : Pair) → Listed ps p → 0 < p.first → p.first < a → p.first < p.second → (k : ℕ) × (k < length qs) × (at qs k ≡ p)
 
 module _ (ps : List Pair) where
-  pub below_none : Below ps 1 []
-  below_none = record {
-    lower = λ k h. absurd (omega arith);
-    written = record { smaller_first = λ k h. absurd (omega arith); rising = λ j k x h. absurd (omega arith) };
-    listed = λ k h. absurd (omega arith);
-    complete = λ p l some less order. absurd (omega arith);
-  }
-
   module _ (d : Different (numbers ps)) (a b : ℕ) (qs : List Pair) (here : Listed ps (record { first = a; second = b })) (m : Below ps a qs) where
     -- the pair of a has its smaller number elsewhere
     pub below_skip : b ≤ a → Below ps (a + 1) qs

@@ -2,14 +2,14 @@
 --     OutOfPlace n xs j        the number at place j of xs is 0, or n or more, or there more than once
 --     AtFault n xs w k         the pair k, from 1, has a number out of place in xs, where xs has w numbers for each pair
 --     NumbersRight n xs        each number of xs is from 1 to n − 1, and there once
---     Found n xs o             o is none where the numbers of xs are right, else a place out of place
+--     Found n xs r             r is Ok where the numbers of xs are right, else the Err of a place out of place
 --     DifferencesRight g ps    all differences of the pairs, in both directions, are different
 --     SumsRight g ps           all sums of the pairs are nonzero and different
 --     fault q k                the refusal q with the pair k, where it names one
 --     WrittenList g bs ps      the bytes list a strong starter, and ps is its one written list
 --     Refused g bs f           the first question that is answered no, and a pair at fault
 --     Claimed g bs r           what a claim answers
-use Rattle.std.specs.Prelude.{◌≡◌, ℕ, ◌+◌, ◌/◌, ◌<◌, ◌≤◌, ◌≢◌, ◌⊎◌, List, length, Some, None, Option, Result, MatchOption, MatchResult, slice_index}
+use Rattle.std.specs.Prelude.{◌≡◌, ℕ, ◌+◌, ◌/◌, ◌<◌, ◌≤◌, ◌≢◌, ◌⊎◌, List, length, Some, None, Option, Result, MatchResult, slice_index}
 use Rattle.groups.specs.Numbers.{Different}
 use Rattle.groups.specs.Tables.{Table}
 use Rattle.groups.specs.declared.refusal.Refusal.{Refusal}
@@ -32,8 +32,8 @@ pub record NumbersRight (n : ℕ) (xs : List ℕ) : Type 0 where
   pub below : (j : ℕ) → j < length xs → slice_index xs j < n
   pub different : Different xs
 
-abbrev pub Found : ℕ → List ℕ → Option ℕ → Type 0
-Found n xs o = MatchOption o (NumbersRight n xs) (λ j. (j < length xs) × OutOfPlace n xs j)
+abbrev pub Found : ℕ → List ℕ → Result Unit ℕ → Type 0
+Found n xs r = MatchResult r (λ _. NumbersRight n xs) (λ j. (j < length xs) × OutOfPlace n xs j)
 
 abbrev pub DifferencesRight : Table → List Pair → Type 0
 DifferencesRight g ps = Different (differences g ps)

@@ -5,7 +5,6 @@ pub mod claim;
 pub mod fault;
 mod listing;
 pub mod pair;
-mod questions;
 pub mod starter;
 #[cfg(test)]
 mod tests;

@@ -5,6 +5,7 @@ use crate::pair::Pair;
 
 mod calls;
 
+// A starter can be copied and takes no heap. An ArrayVec cannot be copied, so it stays an array with the count of its pairs.
 #[derive(Clone, Copy)]
 pub struct Starter {
     pairs: [Pair; 63],

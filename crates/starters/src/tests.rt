@@ -1,23 +1,31 @@
 // What a claim answers on examples.
 use crate::claim::claim;
+use crate::fault::Fault;
+use crate::pair::Pair;
 use groups::cyclic::Cyclic;
 use groups::group::Group;
 use groups::product::Product;
+use groups::refusal::Refusal;
 use std::process::Abort;
 use std::test::Fail;
 
-// The pair that a refusal with a number names.
-fn refused<G: Group>(
+// The fault of a claim that is refused.
+fn refused<G: Group>(group: &G, bytes: &[u8]) -> Result<Fault, Fail> {
+    claim(group, bytes)
+        .err()
+        .ok_or_else(|| Fail::new("accepted"))
+}
+
+// The pair that a refusal for a reason names.
+fn pair_refused<G: Group>(
     rt: &impl Abort,
     group: &G,
     bytes: &[u8],
-    number: u8,
-) -> Result<Option<u8>, Fail> {
-    let Err(fault) = claim(group, bytes) else {
-        return Err(Fail::new("accepted"));
-    };
-    assert_eq!(rt; fault.refusal.number(), number);
-    Ok(fault.pair)
+    refusal: Refusal,
+) -> Result<u8, Fail> {
+    let fault = refused(group, bytes)?;
+    assert_eq!(rt; fault.refusal, refusal);
+    fault.pair.ok_or_else(|| Fail::new("no pair"))
 }
 
 // Whether the answer is a list of pairs.
@@ -27,13 +35,16 @@ fn accepted<G: Group>(
     bytes: &[u8],
     list: &[(u8, u8)],
 ) -> Result<(), Fail> {
-    let Ok(starter) = claim(group, bytes) else {
-        return Err(Fail::new("refused"));
-    };
+    let starter = claim(group, bytes)?;
     assert_eq!(rt; starter.pairs().len(), list.len());
     for (pair, (first, second)) in starter.pairs().iter().zip(list) {
-        assert_eq!(rt; pair.first, *first);
-        assert_eq!(rt; pair.second, *second);
+        assert_eq!(rt;
+            *pair,
+            Pair {
+                first: *first,
+                second: *second
+            }
+        );
     }
     Ok(())
 }
@@ -58,29 +69,39 @@ fn accepted_in_a_product(rt: HostRuntime) -> Result<(), Fail> {
         &bytes,
         &list,
     )?;
-    let _ = refused(&rt, &Cyclic::new(15)?, &bytes, 11)?;
+    let _pair = pair_refused(&rt, &Cyclic::new(15)?, &bytes, Refusal::Differences)?;
     Ok(())
 }
 
 #[test]
 fn refused_by_length(rt: HostRuntime) -> Result<(), Fail> {
     let group = Cyclic::new(7)?;
-    assert_eq!(rt; refused(&rt, &group, &[1, 3, 2, 6, 4], 9)?, None);
-    assert_eq!(rt; refused(&rt, &group, &[1, 3, 2, 6, 4, 5, 1], 9)?, None);
-    assert_eq!(rt; refused(&rt, &group, &[], 9)?, None);
+    assert_eq!(rt; refused(&group, &[1, 3, 2, 6, 4])?, Refusal::Length.into());
+    assert_eq!(rt;
+        refused(&group, &[1, 3, 2, 6, 4, 5, 1])?,
+        Refusal::Length.into()
+    );
+    assert_eq!(rt; refused(&group, &[])?, Refusal::Length.into());
     Ok(())
 }
 
 #[test]
 fn refused_by_numbers(rt: HostRuntime) -> Result<(), Fail> {
     let group = Cyclic::new(7)?;
-    assert_eq!(rt; refused(&rt, &group, &[1, 3, 2, 6, 4, 0], 10)?, Some(3));
-    assert_eq!(rt; refused(&rt, &group, &[1, 3, 7, 6, 4, 5], 10)?, Some(2));
-    assert_eq!(rt; refused(&rt, &group, &[3, 3, 2, 6, 4, 5], 10)?, Some(1));
+    assert_eq!(rt;
+        pair_refused(&rt, &group, &[1, 3, 2, 6, 4, 0], Refusal::Numbers)?,
+        3
+    );
+    assert_eq!(rt;
+        pair_refused(&rt, &group, &[1, 3, 7, 6, 4, 5], Refusal::Numbers)?,
+        2
+    );
+    assert_eq!(rt;
+        pair_refused(&rt, &group, &[3, 3, 2, 6, 4, 5], Refusal::Numbers)?,
+        1
+    );
     // the number 3 is in the first pair and in the last
-    let Some(pair) = refused(&rt, &group, &[1, 3, 2, 6, 3, 5], 10)? else {
-        return Err(Fail::new("no pair"));
-    };
+    let pair = pair_refused(&rt, &group, &[1, 3, 2, 6, 3, 5], Refusal::Numbers)?;
     assert!(rt; pair == 1 || pair == 3);
     Ok(())
 }
@@ -88,13 +109,9 @@ fn refused_by_numbers(rt: HostRuntime) -> Result<(), Fail> {
 #[test]
 fn refused_by_differences_and_sums(rt: HostRuntime) -> Result<(), Fail> {
     let group = Cyclic::new(7)?;
-    let Some(pair) = refused(&rt, &group, &[1, 2, 3, 4, 5, 6], 11)? else {
-        return Err(Fail::new("no pair"));
-    };
+    let pair = pair_refused(&rt, &group, &[1, 2, 3, 4, 5, 6], Refusal::Differences)?;
     assert!(rt; 1 <= pair && pair <= 3);
-    let Some(pair) = refused(&rt, &group, &[1, 6, 2, 5, 3, 4], 12)? else {
-        return Err(Fail::new("no pair"));
-    };
+    let pair = pair_refused(&rt, &group, &[1, 6, 2, 5, 3, 4], Refusal::Sums)?;
     assert!(rt; 1 <= pair && pair <= 3);
     Ok(())
 }

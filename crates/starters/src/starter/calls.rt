@@ -34,15 +34,10 @@ impl Starter {
     pub fn partner(&self, number: u8) -> Option<(usize, u8)>
         ensures { MatchOption result ((k : ℕ) → k < length (pairs_of self.now) → Holds number (at (pairs_of self.now) k) → ⊥) (λ p. (p.0 < length (pairs_of self.now)) × Alike (at (pairs_of self.now) p.0) (record { first = number; second = p.1 })) }
     {
-        for (k, pair) in self.pairs().iter().enumerate() {
-            if pair.first == number {
-                return Some((k, pair.second));
-            }
-            if pair.second == number {
-                return Some((k, pair.first));
-            }
-        }
-        None
+        self.pairs()
+            .iter()
+            .enumerate()
+            .find_map(|(k, pair)| pair.other(number).map(|other| (k, other)))
     }
 
     // The pairs, in list order.
