@@ -1,7 +1,6 @@
 -- Room squares by counting: n rounds that put a team at different venues use all n venues, and n rounds that give it
 -- different opponents use all n other teams. Assumes nothing.
-use Rattle.std.proofs.Common.{◌≡◌, ℕ, suc, ◌<◌, ◌≤◌, true, eqb, ◌≢◌, sym, refl, ◌∙◌, subst, inl, inr, arith}
-use Rattle.std.proofs.lemmas.Bool.{cases_eq, cond-true, cond-false, eq-eqb, ne_eqb, or_left, or_right, false≢true}
+use Rattle.std.proofs.Common.{◌≡◌, ℕ, suc, ◌<◌, ◌≤◌, true, ◌≢◌, sym, refl, ◌∙◌, subst, arith}
 use Rattle.groups.specs.Numbers.{OnlyOne, lowest}
 use Rattle.groups.specs.Lowest.{lowest_least, lowest_passes}
 use Rattle.groups.proofs.Pigeonhole.{Within, OneToOne, reaches_all, reaches_others}
@@ -11,17 +10,8 @@ use Rattle.squares.specs.RoomSquares.{Proper, Together, OnlyCell, RoomSquare}
 -- a team and its opponent are the two teams of their cell
 opponent_facts : (n u : ℕ) (c : Cell) → Proper n c → plays u c ≡ true
     → (opponent u c ≤ n) × (opponent u c ≢ u) × (plays (opponent u c) c ≡ true)
-opponent_facts n u empty p t = absurd (false≢true t)
-opponent_facts n u (meet a b) p t =
-    let facts : ℕ → Type 0 = λ o. (o ≤ n) × (o ≢ u) × (plays o (meet a b) ≡ true) in
-    elim (cases_eq a u) [
-      | inl e ↦
-          subst facts (sym (cond-true (eqb a u) b a (eq-eqb a u e)))
-          (p.1, (λ q. omega (arith, p.0)), or_right (eqb a b) (eqb b b) (eq-eqb b b refl))
-      | inr ne ↦
-          subst facts (sym (cond-false (eqb a u) b a (ne_eqb a u ne)))
-          (omega (arith, p.0, p.1), ne, or_left (eqb a a) (eqb b a) (eq-eqb a a refl))
-    ]
+opponent_facts n u empty p t = grind arith
+opponent_facts n u (meet a b) p t = grind arith
 
 -- a square of side n in which every team plays exactly once in each round, no team plays twice at one venue and no two teams
 -- meet twice is a Room square
@@ -39,8 +29,7 @@ module _ (n : ℕ) (cells : Cells)
   venue_below : (u r : ℕ) → u ≤ n → r < n → venue u r < n
   venue_below u r hu hr =
       let o = once r u hr hu in
-      let h : o.here < n = o.below in
-      omega (arith, lowest_least (λ v. plays u (cells r v)) n 0 o.here (omega arith) (omega arith) o.holds)
+      omega (arith, lowest_least (λ v. plays u (cells r v)) n 0 o.here (omega arith) (omega (arith, o.below)) o.holds, o.below)
 
   plays_there : (u r : ℕ) → u ≤ n → r < n → plays u (cells r (venue u r)) ≡ true
   plays_there u r hu hr = lowest_passes (λ v. plays u (cells r v)) n 0 (omega (arith, venue_below u r hu hr))

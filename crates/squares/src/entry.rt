@@ -1,11 +1,5 @@
 // One round of a team: where it plays, and against whom.
-ghost use Rattle.std.specs.Prelude.{◌<◌, ◌≤◌};
-ghost use Rattle.squares.specs.Cards.{Line};
-ghost use Rattle.starters.specs.Pairs.{pairs_of};
-ghost use Rattle.starters.specs.Starters.{Strong};
-
-use groups::group::{Group, minus};
-use starters::starter::Starter;
+ghost use Rattle.std.specs.Prelude.{◌≡◌, [], ◌∷◌};
 
 #[derive(Clone, Copy)]
 pub(crate) struct Entry {
@@ -14,33 +8,24 @@ pub(crate) struct Entry {
     pub opponent: u8,
 }
 
-// The round of a team in the square of a strong starter. The team plays in the meeting of the pair that holds its
-// difference from the round. Where no pair does, the difference is 0, and the team meets the guest.
-pub(crate) fn entry_of<G: Group>(group: &G, starter: &Starter, team: u8, round: u8) -> Entry
-    requires strong { Strong (G.Group.table group.now) (pairs_of starter.now) }
-    requires team { team ≤ (G.Group.table group.now).order }
-    requires round { round < (G.Group.table group.now).order }
-    ensures { Line (G.Group.table group.now) (pairs_of starter.now) team round result.table result.venue result.opponent }
-{
-    let n = group.order();
-    if team == n {
-        return Entry {
+impl Entry {
+    // A meeting with the guest is at table 0, and at the venue of the round.
+    pub(crate) fn with_guest(round: u8, opponent: u8) -> Entry
+        ensures { result ≡ record { table = 0; venue = round; opponent = opponent } }
+    {
+        Entry {
             table: 0,
             venue: round,
-            opponent: round,
-        };
+            opponent,
+        }
     }
-    let moved = minus(group, team, round);
-    match starter.partner(moved) {
-        Some((k, other)) => Entry {
-            table: k as u8 + 1,
-            venue: group.sum(round, group.sum(moved, other)),
-            opponent: group.sum(other, round),
-        },
-        None => Entry {
-            table: 0,
-            venue: round,
-            opponent: n,
-        },
+}
+
+// The three bytes that a card has for the round.
+impl From<Entry> for [u8; 3] {
+    ghost from_gives = { λ entry bytes. bytes ≡ entry.table ∷ (entry.venue ∷ (entry.opponent ∷ [])) };
+
+    fn from(entry: Entry) -> [u8; 3] {
+        [entry.table, entry.venue, entry.opponent]
     }
 }

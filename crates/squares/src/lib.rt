@@ -3,5 +3,6 @@
 
 pub mod card;
 mod entry;
+mod square;
 #[cfg(test)]
 mod tests;

@@ -1,31 +1,15 @@
 // Cards on examples.
 use crate::card::card;
 use groups::cyclic::Cyclic;
-use groups::group::Group;
 use groups::product::Product;
+use groups::refusal::Refusal;
 use std::test::Fail;
-
-// The number of a refusal.
-fn refused<G: Group>(group: &G, bytes: &[u8], team: u8, place: &mut [u8]) -> Result<u8, Fail> {
-    let Err(fault) = card(group, bytes, team, place) else {
-        return Err(Fail::new("a card was written"));
-    };
-    Ok(fault.refusal.number())
-}
-
-// The length of a card.
-fn written<G: Group>(group: &G, bytes: &[u8], team: u8, place: &mut [u8]) -> Result<usize, Fail> {
-    let Ok(length) = card(group, bytes, team, place) else {
-        return Err(Fail::new("refused"));
-    };
-    Ok(length)
-}
 
 #[test]
 fn cards_of_team_0_and_of_the_guest(rt: HostRuntime) -> Result<(), Fail> {
     let group = Cyclic::new(7)?;
     let mut place = [99; 24];
-    assert_eq!(rt; written(&group, &[1, 3, 2, 6, 4, 5], 0, &mut place)?, 21);
+    assert_eq!(rt; card(&group, &[1, 3, 2, 6, 4, 5], 0, &mut place), Ok(21));
     let lines = [
         [0, 0, 7],
         [2, 2, 3],
@@ -36,15 +20,10 @@ fn cards_of_team_0_and_of_the_guest(rt: HostRuntime) -> Result<(), Fail> {
         [1, 3, 2],
         [99, 99, 99],
     ];
-    for (r, line) in lines.iter().enumerate() {
-        assert_eq!(rt; [place[3 * r], place[3 * r + 1], place[3 * r + 2]], *line);
-    }
-    assert_eq!(rt; written(&group, &[5, 4, 3, 1, 6, 2], 7, &mut place)?, 21);
-    for r in 0..7 {
-        assert_eq!(rt;
-            [place[3 * r], place[3 * r + 1], place[3 * r + 2]],
-            [0, r as u8, r as u8]
-        );
+    assert_eq!(rt; place.as_slice(), lines.as_flattened());
+    assert_eq!(rt; card(&group, &[5, 4, 3, 1, 6, 2], 7, &mut place), Ok(21));
+    for (round, line) in (0..7).zip(place.as_chunks::<3>().0) {
+        assert_eq!(rt; *line, [0, round, round]);
     }
     assert_eq!(rt; place[21], 99);
     Ok(())
@@ -55,12 +34,23 @@ fn refusals_in_order(rt: HostRuntime) -> Result<(), Fail> {
     let group = Cyclic::new(7)?;
     let right = [1, 3, 2, 6, 4, 5];
     let mut place = [99; 21];
-    assert_eq!(rt; refused(&group, &right, 8, &mut place)?, 22);
-    assert_eq!(rt; refused(&group, &[1, 6, 2, 5, 3, 4], 8, &mut place)?, 12);
+    assert_eq!(rt;
+        card(&group, &right, 8, &mut place),
+        Err(Refusal::Team.into())
+    );
+    // Which pair is named is left open.
+    let answer = card(&group, &[1, 6, 2, 5, 3, 4], 8, &mut place).map_err(|fault| fault.refusal);
+    assert_eq!(rt; answer, Err(Refusal::Sums));
     assert_eq!(rt; place, [99; 21]);
     let mut short = [99; 20];
-    assert_eq!(rt; refused(&group, &right, 7, &mut short)?, 8);
-    assert_eq!(rt; refused(&group, &right, 8, &mut short)?, 22);
+    assert_eq!(rt;
+        card(&group, &right, 7, &mut short),
+        Err(Refusal::Place.into())
+    );
+    assert_eq!(rt;
+        card(&group, &right, 8, &mut short),
+        Err(Refusal::Team.into())
+    );
     assert_eq!(rt; short, [99; 20]);
     Ok(())
 }
@@ -75,7 +65,7 @@ fn card_of_a_product_nested_twice(rt: HostRuntime) -> Result<(), Fail> {
     let bytes =
         b"\x01\x17\x02\x05\x03\x10\x04\x16\x06\x19\x07\x0d\x08\x13\x09\x0e\x0a\x0b\x0c\x1a\x0f\x12\x11\x18\x14\x15";
     let mut place = [99; 81];
-    assert_eq!(rt; written(&group, bytes, 13, &mut place)?, 81);
+    assert_eq!(rt; card(&group, bytes, 13, &mut place), Ok(81));
     let lines = [
         [6, 11, 7],
         [10, 0, 24],
@@ -105,8 +95,6 @@ fn card_of_a_product_nested_twice(rt: HostRuntime) -> Result<(), Fail> {
         [12, 18, 3],
         [10, 25, 2],
     ];
-    for (r, line) in lines.iter().enumerate() {
-        assert_eq!(rt; [place[3 * r], place[3 * r + 1], place[3 * r + 2]], *line);
-    }
+    assert_eq!(rt; place.as_slice(), lines.as_flattened());
     Ok(())
 }
