@@ -1,7 +1,6 @@
 -- The answer of the questions accepts exactly the sheets of Room squares. Assumes nothing.
-use Rattle.std.proofs.Common.{◌≡◌, ℕ, zero, suc, ◌+◌, ◌*◌, ◌/◌, ◌%◌, ◌≤◌, Bool, true, false, List, [], ◌++◌, length, Ok, Err, sym, refl, ap, ◌∙◌, subst, arith}
-use Rattle.std.proofs.lemmas.List.{append_assoc, append-nil, length-append}
-use Rattle.std.proofs.lemmas.Bool.{false≢true}
+use Rattle.std.proofs.Common.{◌≡◌, ℕ, zero, suc, ◌+◌, ◌*◌, ◌/◌, ◌%◌, ◌≤◌, List, [], ◌++◌, length, Ok, Err, sym, refl, ap, ◌∙◌, subst, arith}
+use Rattle.std.proofs.lemmas.List.{append_assoc, length-append}
 use Rattle.groups.specs.Refusals.{number_of}
 use Rattle.groups.specs.Tables.{OddOrder}
 use Rattle.groups.specs.declared.refusal.Refusal.{Refusal}
@@ -20,33 +19,19 @@ use Rattle.sheets.specs.declared.fault.Fault.{Fault}
 use Rattle.sheets.specs.declared.stage.Stage.TheVariants.{Done}
 use Rattle.sheets.proofs.Accepted.{Ended, well, refused, judge_ends, passed_sheet}
 use Rattle.sheets.proofs.Front.{front_decides}
-use Rattle.sheets.proofs.Passing.{Passed, reads_on, taken_told}
+use Rattle.sheets.proofs.Passing.{Passed, reads_to_end, taken_told}
 use Rattle.sheets.proofs.SheetPasses.{rounds_read, sheet_read}
 use Rattle.sheets.proofs.Sizes.{between_size, told_short}
 use Rattle.sheets.proofs.Written.{AllBytes}
 
-abbrev is_ok : Verdict → Bool
-is_ok (Ok u) = true
-is_ok (Err f) = false
-
-no_fault : {f : Fault} → ◌≡◌ {A = Verdict} (Ok tt) (Err f) → ⊥
-no_fault e = false≢true (sym (ap is_ok e))
-
-abbrev fault_in : Fault → Verdict → Fault
-fault_in d (Ok u) = d
-fault_in d (Err f) = f
-
-fault_same : (f g : Fault) → ◌≡◌ {A = Verdict} (Err f) (Err g) → f ≡ g
-fault_same f g e = ap (fault_in f) e
-
 ended_well : (bytes : List ℕ) (r : Verdict) → Ended bytes r → r ≡ Ok tt → RoomSheet bytes
 ended_well bytes r (well past p e w) t = subst RoomSheet (sym w) (passed_sheet past p e)
-ended_well bytes r (refused past f p e) t = absurd (no_fault (sym t))
+ended_well bytes r (refused past f p e) t = absurd (cc)
 
 ended_near : (bytes : List ℕ) (r : Verdict) → Ended bytes r → (f : Fault) → r ≡ Err f → f.place ≤ sheet_size 127
-ended_near bytes r (well past p e w) f t = absurd (no_fault t)
+ended_near bytes r (well past p e w) f t = absurd (cc)
 ended_near bytes r (refused past g p e) f t =
-    let same : g.place ≡ f.place = ap (λ (h : Fault). h.place) (fault_same g f t) in
+    let same : g.place ≡ f.place = cc in
     omega (arith, told_short past p)
 
 at_done : (k : ℕ) (past : List Command) → stage past ≡ Done → reading k past [] ≡ Ok tt
@@ -55,11 +40,7 @@ at_done (suc k) past e = simp e
 
 -- commands that passed up to END are accepted
 pub passed_accepted : (past : List Command) → Passed past → stage past ≡ Done → judge (told past) ≡ Ok tt
-passed_accepted past p e =
-    let whole : told past ++ [] ≡ told past = append-nil (told past) in
-    let enough : length (told past ++ []) ≤ length (told past) = subst (λ (xs : List ℕ). length xs ≤ length (told past)) (sym whole) (omega arith) in
-    let o = reads_on past [] (length (told past)) p enough in
-    ap (reading (length (told past)) []) (sym whole) ∙ o.same ∙ at_done o.more past e
+passed_accepted past p e = let o = reads_to_end past p in o.1 ∙ at_done o.0 past e
 
 -- the sheet of a Room square
 module _ (n : ℕ) (cells : Cells) (odd : OddOrder n) (room : RoomSquare n cells) where
@@ -137,16 +118,16 @@ module _ (bytes : List ℕ) (p : ℕ) where
         answer = e ∙ ap packed c.judged;
         zero_accepted = λ z. c.only_sheets refl;
         accepted_zero = λ s. e;
-        unpacks = λ f j. absurd (no_fault (c.judged ∙ j));
+        unpacks = λ f j. absurd (cc);
       }
   packed_by (Err f) c e =
       let some = numbered f.refusal in
       record {
         answer = e ∙ ap packed c.judged;
         zero_accepted = λ z. absurd (omega arith);
-        accepted_zero = λ s. absurd (no_fault (sym (c.every_sheet s)));
+        accepted_zero = λ s. let ok = c.every_sheet s in absurd (cc);
         unpacks = λ g j.
-            let same : f ≡ g = fault_same f g (c.judged ∙ j) in
+            let same : f ≡ g = cc (c.judged) in
             let near = c.near f refl in
             let number : p / 65536 ≡ number_of f.refusal = omega arith in
             let place : p % 65536 ≡ f.place = omega arith in

@@ -1,6 +1,9 @@
 -- What `everyone` asks of each number. Assumes nothing.
-use Rattle.std.proofs.Common.{◌≡◌, ℕ, zero, suc, ◌≤◌, Bool, true, false, sym, subst, inl, inr, arith}
-use Rattle.std.proofs.lemmas.Bool.{cases_eq, cases_Bool, and_parts, and_from, both_ways}
+use Rattle.std.proofs.Common.{◌≡◌, ℕ, zero, suc, ◌+◌, ◌≤◌, Bool, true, [], ◌∷◌, map, sym, ap, ◌∙◌, subst, inl, inr, arith}
+use Rattle.std.proofs.lemmas.Bool.{cases_eq, and_parts, and_from}
+use Rattle.std.proofs.lemmas.List.Folds.{list_all-append, list_all-map}
+use Rattle.std.proofs.lemmas.List.FromFn.{map-range_with_len_more}
+use Rattle.std.specs.List.{list_all, range_with_len}
 use Rattle.sheets.specs.Judgements.{everyone}
 
 module _ (test : ℕ → Bool) where
@@ -18,9 +21,13 @@ module _ (test : ℕ → Bool) where
   everyone_from (suc n) h =
       and_from (everyone n test) (test (suc n)) (everyone_from n (λ u x. h u (omega arith))) (h (suc n) (omega arith))
 
-  pub someone_out : (n u : ℕ) → u ≤ n → test u ≡ false → everyone n test ≡ false
-  someone_out n u h out =
-      elim (cases_Bool (everyone n test)) [
-        | inl all ↦ absurd (both_ways (test u) out (everyone_passes n u all h))
-        | inr f ↦ f
-      ]
+  all_answers : (n : ℕ) → list_all (λ b. b) (map test (range_with_len 0 (n + 1))) ≡ everyone n test
+  all_answers zero = grind arith
+  all_answers (suc n) =
+      let more = map-range_with_len_more test 0 (suc n) (suc n) (omega arith) in
+      let apart = list_all-append (λ (b : Bool). b) (map test (range_with_len 0 (suc n))) (test (suc n) ∷ []) in
+      ap (list_all (λ b. b)) more ∙ apart ∙ grind (arith, all_answers n)
+
+  -- the numbers that `all` goes through are those that `everyone` asks
+  pub all_numbers : (n : ℕ) → list_all test (range_with_len 0 (n + 1)) ≡ everyone n test
+  all_numbers n = sym (list_all-map (λ b. b) test (range_with_len 0 (n + 1))) ∙ all_answers n

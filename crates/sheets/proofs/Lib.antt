@@ -1,4 +1,5 @@
-pub mod Parsing
+pub mod Mapped
+pub mod Marked
 pub mod Everyone
 pub mod Noting
 pub mod Written

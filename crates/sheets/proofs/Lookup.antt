@@ -1,7 +1,7 @@
 -- The square of a list of meetings. Assumes nothing.
 --     here r v m        the meeting m is in round r at venue v
 --     cells_of ms       each meeting of the list ms in its cell, and all other cells empty
-use Rattle.std.proofs.Common.{◌≡◌, ℕ, ◌<◌, ◌≤◌, Bool, true, false, cond, ◌&&◌, eqb, ◌≢◌, List, [], ◌∷◌, sym, refl, ap, ◌∙◌, subst, inl, inr, arith}
+use Rattle.std.proofs.Common.{◌≡◌, ℕ, ◌<◌, ◌≤◌, Bool, true, cond, ◌&&◌, eqb, ◌≢◌, List, [], ◌∷◌, sym, refl, ap, ◌∙◌, subst, inl, inr, arith}
 use Rattle.std.proofs.lemmas.Bool.{cases_Bool, cases_lt, cond-true, cond-false, and_from, and_parts, or_cases, both_ways, eq-eqb, eqb-true, false≢true}
 use Rattle.groups.specs.Numbers.{OnlyOne}
 use Rattle.squares.specs.Cells.{Cell, Cells, empty, meet, plays}
@@ -25,22 +25,10 @@ here_is m r v t =
 is_here : (m : Meeting) (r v : ℕ) → m.round ≡ r → m.venue ≡ v → here r v m ≡ true
 is_here m r v e f = and_from (eqb m.round r) (eqb m.venue v) (eq-eqb m.round r e) (eq-eqb m.venue v f)
 
-abbrev is_meeting : Cell → Bool
-is_meeting empty = false
-is_meeting (meet a b) = true
-
-abbrev first_team : Cell → ℕ
-first_team empty = 0
-first_team (meet a b) = a
-
-abbrev second_team : Cell → ℕ
-second_team empty = 0
-second_team (meet a b) = b
-
 -- a cell that is not empty holds a meeting of the list
 pub cell_told : (ms : List Meeting) (r v a b : ℕ) → cells_of ms r v ≡ meet a b
     → Among ms (record { round = r; venue = v; lower = a; higher = b })
-cell_told [] r v a b e = absurd (false≢true (ap is_meeting e))
+cell_told [] r v a b e = absurd (cc)
 cell_told (m ∷ ms) r v a b e =
     elim (cases_Bool (here r v m)) [
       | inl t ↦
@@ -48,8 +36,8 @@ cell_told (m ∷ ms) r v a b e =
           let place = here_is m r v t in
           let p : m.round ≡ r = place.0 in
           let q : m.venue ≡ v = place.1 in
-          let low : m.lower ≡ a = ap first_team same in
-          let high : m.higher ≡ b = ap second_team same in
+          let low : m.lower ≡ a = cc in
+          let high : m.higher ≡ b = cc in
           let whole : record { round = m.round; venue = m.venue; lower = m.lower; higher = m.higher }
           ≡ record { round = r; venue = v; lower = a; higher = b } = cc in
           inl whole

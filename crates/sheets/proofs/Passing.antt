@@ -3,7 +3,7 @@
 use Rattle.std.proofs.Common.{◌≡◌, ℕ, zero, suc, ◌<◌, ◌≤◌, List, [], ◌∷◌, ◌++◌, length, None, Ok, sym, refl, ap, ◌∙◌, subst, arith}
 use Rattle.std.proofs.lemmas.List.{append_assoc, append-nil, length-append}
 use Rattle.sheets.specs.Commands.{written, first}
-use Rattle.sheets.specs.Judgements.{question, reading}
+use Rattle.sheets.specs.Judgements.{question, reading, judge}
 use Rattle.sheets.specs.Meetings.{told, taken}
 use Rattle.sheets.specs.declared.command.Command.{Command}
 use Rattle.sheets.specs.declared.command.Command.TheVariants.{Side, Round, Meet, Close, End}
@@ -51,6 +51,14 @@ module _ {A : Type 0} (says : ℕ → List Command → List ℕ → A) (Takes : 
       let m = one_more past c rest o.more p.0 o.enough in
       record { more = m.0; enough = m.1; same = ap (λ xs. says k [] xs) a ∙ o.same ∙ m.2 }
 
+  -- of the bytes of commands alone nothing is left
+  pub goes_to_end : (past : List Command) → AllTaken past → (k : ℕ) × (says (length (told past)) [] (told past) ≡ says k past [])
+  goes_to_end past p =
+      let whole : told past ++ [] ≡ told past = append-nil (told past) in
+      let enough : length (told past ++ []) ≤ length (told past) = simp whole (omega arith) in
+      let o = goes_behind past [] (length (told past)) p enough in
+      (o.more, ap (says (length (told past)) []) (sym whole) ∙ o.same)
+
 read_next : (past : List Command) (c : Command) (bytes rest : List ℕ) (k : ℕ) → 0 < length bytes → first bytes ≡ Ok (c, rest)
     → question past c ≡ None → reading (suc k) past bytes ≡ reading k (c ∷ past) rest
 read_next past c [] rest k h e q = absurd (omega arith)
@@ -59,6 +67,9 @@ read_next past c (b ∷ bs) rest k h e q = rw (e, reading) (rw (q, reading))
 pub reads_on : (past : List Command) (rest : List ℕ) (k : ℕ) → Passed past → length (told past ++ rest) ≤ k
     → Onward reading k (told past ++ rest) past rest
 reads_on = goes_behind reading (λ past c. question past c ≡ None) read_next
+
+pub reads_to_end : (past : List Command) → Passed past → (k : ℕ) × (judge (told past) ≡ reading k past [])
+reads_to_end = goes_to_end reading (λ past c. question past c ≡ None) read_next
 
 take_next : (past : List Command) (c : Command) (bytes rest : List ℕ) (k : ℕ) → 0 < length bytes → first bytes ≡ Ok (c, rest)
     → Unit {0} → taken (suc k) past bytes ≡ taken k (c ∷ past) rest
@@ -74,8 +85,4 @@ none_taken past (suc k) = refl
 
 -- the commands of their bytes are the commands
 pub taken_told : (past : List Command) → taken (length (told past)) [] (told past) ≡ past
-taken_told past =
-    let whole : told past ++ [] ≡ told past = append-nil (told past) in
-    let enough : length (told past ++ []) ≤ length (told past) = subst (λ (xs : List ℕ). length xs ≤ length (told past)) (sym whole) (omega arith) in
-    let o = goes_behind taken (λ before c. Unit {0}) take_next past [] (length (told past)) (all_taken past) enough in
-    ap (taken (length (told past)) []) (sym whole) ∙ o.same ∙ none_taken past o.more
+taken_told past = let o = goes_to_end taken (λ before c. Unit {0}) take_next past (all_taken past) in o.1 ∙ none_taken past o.0

@@ -3,6 +3,7 @@
 --     Scan rest        the rest begins with the cells of round r from some venue on, and the venue sought is not before it
 use Rattle.std.proofs.Common.{◌≡◌, ℕ, zero, suc, ◌+◌, ◌-◌, ◌*◌, ◌<◌, ◌≤◌, false, cond, ◌&&◌, ltb, List, [], ◌++◌, length, take, drop, Ok, sym, refl, ap, ◌∙◌, subst, inl, inr, arith}
 use Rattle.std.proofs.lemmas.List.{append_assoc, length-append, drop_at, take_rest}
+use Rattle.std.proofs.lemmas.Grind.{not_there}
 use Rattle.std.proofs.lemmas.Bool.{cases_lt, cases_eq, and_from, and_left, and_right, cond-true, cond-false, lt-ltb, le-ltb, false≢true}
 use Rattle.squares.specs.Cells.{Cell, Cells, empty, meet}
 use Rattle.sheets.specs.Commands.{written, first, is_meet}
@@ -191,7 +192,7 @@ module _ (bytes : List ℕ) (s : RoomSheet bytes) (r side : ℕ) (same : side �
         size = l ∙ ap (λ (x : ℕ). x + 2) size ∙ ap (λ (x : ℕ). 2 + r * (2 * x + 5) + 2) (sym same);
       }
 
-  pub not_short : start ≤ length bytes
+  not_short : start ≤ length bytes
   not_short =
       let a = round_at in
       let l = ap length a.whole ∙ length-append a.front (row s.square r 0 s.side ++ (written Close ++ a.more)) in
@@ -209,3 +210,12 @@ module _ (bytes : List ℕ) (s : RoomSheet bytes) (r side : ℕ) (same : side �
         rest_is = take_rest bytes start ∙ ap (drop start) a.whole ∙ drop_at a.front rest start a.size;
         empty_before = λ h. absurd (omega arith);
       }
+
+-- the bytes of a sheet go as far as each of its rounds
+pub round_there : (bytes : List ℕ) → ∥ RoomSheet bytes ∥₁ → (r side : ℕ) → ((s : RoomSheet bytes) → side ≡ s.side) → r < side
+    → 2 + r * (2 * side + 5) + 2 ≤ length bytes
+round_there bytes real r side same h =
+    elim (cases_lt (length bytes) (2 + r * (2 * side + 5) + 2)) [
+      | inl short ↦ absurd (not_there real (λ s. let long = not_short bytes s r side (same s) h in omega (arith, long)))
+      | inr fits ↦ fits
+    ]

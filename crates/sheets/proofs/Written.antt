@@ -1,10 +1,9 @@
 -- Commands are written so that they can be read: the first command of the bytes of a command is that command. Assumes nothing.
 --     AllBytes bytes          each number of the list is below 256
 --     Parted bytes rest c     the bytes of the command c stand before the rest
-use Rattle.std.proofs.Common.{◌≡◌, ℕ, ◌+◌, ◌*◌, ◌/◌, ◌%◌, ◌<◌, Bool, true, false, eqb, List, [], ◌∷◌, ◌++◌, length, get_or, Ok, Err, sym, refl, ap, ◌∙◌, subst, inl, inr, arith}
+use Rattle.std.proofs.Common.{◌≡◌, ℕ, ◌+◌, ◌*◌, ◌/◌, ◌%◌, ◌<◌, true, eqb, List, [], ◌∷◌, ◌++◌, length, get_or, Ok, Err, sym, refl, ap, ◌∙◌, subst, inl, inr, arith}
 use Rattle.std.proofs.lemmas.List.{get_or-append-add, length-append}
-use Rattle.std.proofs.lemmas.Bool.{cases_Bool, eqb-true, false≢true}
-use Rattle.groups.specs.declared.refusal.Refusal.{Refusal}
+use Rattle.std.proofs.lemmas.Bool.{cases_Bool, eqb-true}
 use Rattle.groups.specs.declared.refusal.Refusal.TheVariants.{Command as Unknown}
 use Rattle.sheets.specs.Commands.{First, written, one, two, three, first, side_byte, round_byte, meet_byte, close_byte, end_byte}
 use Rattle.sheets.specs.declared.command.Command.{Command}
@@ -26,13 +25,6 @@ abbrev pub rest_in : List ℕ → First → List ℕ
 rest_in rest (Ok f) = f.1
 rest_in rest (Err q) = rest
 
-abbrev is_read : First → Bool
-is_read (Ok f) = true
-is_read (Err q) = false
-
-refused : {q : Refusal} {c : Command} {rest : List ℕ} → ◌≡◌ {A = First} (Err q) (Ok (c, rest)) → ⊥
-refused e = false≢true (ap is_read e)
-
 pub first_written : (c : Command) (rest : List ℕ) → first (written c ++ rest) ≡ Ok (c, rest)
 first_written (Side n) rest = refl
 first_written (Round r) rest = refl
@@ -42,17 +34,17 @@ first_written (End m) rest = let e : m % 256 + 256 * (m / 256) ≡ m = omega ari
 
 -- the operands of a command that was read, and the bytes after them
 one_back : (f : ℕ → Command) (bs rest : List ℕ) (c : Command) → one f bs ≡ Ok (c, rest) → (x : ℕ) × (bs ≡ x ∷ rest) × (c ≡ f x)
-one_back f [] rest c e = absurd (refused e)
+one_back f [] rest c e = absurd (cc)
 one_back f (x ∷ bs) rest c e = (x, ap (λ ys. x ∷ ys) (ap (rest_in bs) e), sym (ap (command_in c) e))
 
 two_back : (f : ℕ → ℕ → Command) (bs rest : List ℕ) (c : Command) → two f bs ≡ Ok (c, rest)
     → (x y : ℕ) × (bs ≡ x ∷ y ∷ rest) × (c ≡ f x y)
-two_back f [] rest c e = absurd (refused e)
+two_back f [] rest c e = absurd (cc)
 two_back f (x ∷ bs) rest c e = let o = one_back (f x) bs rest c e in (x, o.0, ap (λ ys. x ∷ ys) o.1, o.2)
 
 three_back : (f : ℕ → ℕ → ℕ → Command) (bs rest : List ℕ) (c : Command) → three f bs ≡ Ok (c, rest)
     → (x y z : ℕ) × (bs ≡ x ∷ y ∷ z ∷ rest) × (c ≡ f x y z)
-three_back f [] rest c e = absurd (refused e)
+three_back f [] rest c e = absurd (cc)
 three_back f (x ∷ bs) rest c e = let o = two_back (f x) bs rest c e in (x, o.0, o.1, ap (λ ys. x ∷ ys) o.2, o.3)
 
 -- bytes whose first command is c: its own bytes stand before the rest
@@ -110,7 +102,7 @@ parted_first b bs rest c e =
                                   let o = two_back (λ low high. End (low + 256 * high)) bs rest c (simp (no1, no2, no3, no4, t) at e) in
                                   let d : Command = End (o.0 + 256 * o.1) in
                                   parted_by end_byte b (o.0 ∷ o.1 ∷ []) bs rest c d t o.2 o.3 (end_written b o.0 o.1 bs rest o.2)
-                              | inr no5 ↦ absurd (refused {q = Unknown} (simp (no1, no2, no3, no4, no5) at e))
+                              | inr no5 ↦ let none : ◌≡◌ {A = First} (Err Unknown) (Ok (c, rest)) = simp (no1, no2, no3, no4, no5) at e in absurd (cc)
                             ]
                       ]
                 ]
@@ -118,7 +110,7 @@ parted_first b bs rest c e =
     ]
 
 parted : (bytes rest : List ℕ) (c : Command) → first bytes ≡ Ok (c, rest) → Parted bytes rest c
-parted [] rest c e = absurd (refused e)
+parted [] rest c e = absurd (cc)
 parted (b ∷ bs) rest c e = parted_first b bs rest c e
 
 pub written_first : (bytes rest : List ℕ) (c : Command) → AllBytes bytes → first bytes ≡ Ok (c, rest) → bytes ≡ written c ++ rest

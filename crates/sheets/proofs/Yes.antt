@@ -1,6 +1,6 @@
 -- What it means that no question of a command is answered no, for each command. Assumes nothing.
 --     SideYes .. EndYes     all questions of the command are answered yes
-use Rattle.std.proofs.Common.{◌≡◌, ℕ, ◌%◌, ◌<◌, ◌≤◌, Bool, true, false, ◌&&◌, eqb, ltb, leb, List, [], ◌∷◌, Some, None, Option, sym, refl, ap, subst, arith}
+use Rattle.std.proofs.Common.{◌≡◌, ℕ, ◌%◌, ◌<◌, ◌≤◌, Bool, true, false, ◌&&◌, eqb, ltb, leb, List, [], ◌∷◌, None, sym, refl, subst, arith}
 use Rattle.std.proofs.lemmas.Bool.{and_parts, and_from, or_parts, not-true, eq-eqb, eqb-true, le-leb, leb-true, lt-ltb, ltb-true, false≢true}
 use Rattle.groups.specs.Tables.{OddOrder}
 use Rattle.groups.specs.declared.refusal.Refusal.{Refusal}
@@ -13,10 +13,6 @@ use Rattle.sheets.specs.declared.command.Command.TheVariants.{Side, Round, Meet,
 use Rattle.sheets.specs.declared.stage.Stage.{Stage}
 use Rattle.sheets.specs.declared.stage.Stage.TheVariants.{Start, Between, Open, Done}
 
-abbrev is_none : Option Refusal → Bool
-is_none None = true
-is_none (Some q) = false
-
 abbrev AllYes : List (Refusal × Bool) → Type 0
 AllYes [] = Unit {0}
 AllYes (q ∷ qs) = (q.1 ≡ true) × AllYes qs
@@ -24,7 +20,7 @@ AllYes (q ∷ qs) = (q.1 ≡ true) × AllYes qs
 all_yes : (qs : List (Refusal × Bool)) → first_no qs ≡ None → AllYes qs
 all_yes [] e = tt
 all_yes ((q, true) ∷ qs) e = (refl, all_yes qs e)
-all_yes ((q, false) ∷ qs) e = absurd (false≢true (ap is_none e))
+all_yes ((q, false) ∷ qs) e = absurd (cc)
 
 pub at_start : (s : Stage) → is_start s ≡ true → s ≡ Start
 at_start Start t = refl

@@ -13,16 +13,14 @@ pub fn check(bytes: &[u8]) -> Result<(), Fault>
 {
     let mut reader = Reader::new();
     let mut rest = bytes;
-    while rest.len() > 0 {
+    // An iterator of commands would be a type of its own, and hand out each one's place and error too: no plainer.
+    while !rest.is_empty() {
         let place = bytes.len() - rest.len();
-        let (command, tail) = match first_command(rest) {
-            Ok(first) => first,
-            Err(refusal) => return Err(bytes_fault(place, refusal)),
-        };
+        let (command, tail) = first_command(rest).map_err(|refusal| bytes_fault(place, refusal))?;
         let stage = reader.stage;
-        if let Err(refusal) = reader.step(command) {
-            return Err(fault_of(stage, command, place, refusal));
-        }
+        reader
+            .step(command)
+            .map_err(|refusal| fault_of(stage, command, place, refusal))?;
         rest = tail;
     }
     match reader.stage {

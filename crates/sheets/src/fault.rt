@@ -8,7 +8,7 @@ use groups::refusal::Refusal;
 use std::fmt;
 
 // What a question is about: the bytes, their form, or the league.
-#[derive(Clone, Copy)]
+#[derive(Clone, Copy, Debug, PartialEq, Eq)]
 pub enum Layer {
     Bytes,
     Form,
@@ -30,7 +30,7 @@ impl fmt::Display for Layer {
 
 // The first question that is answered no, and the place of its command's first byte; the round with questions 17 to 20, the
 // venue with 17 to 19.
-#[derive(Clone, Copy)]
+#[derive(Clone, Copy, Debug, PartialEq, Eq)]
 pub struct Fault {
     pub refusal: Refusal,
     pub place: usize,
@@ -40,13 +40,20 @@ pub struct Fault {
 }
 
 // The layer of a question.
-fn layer_of(refusal: Refusal) -> Layer
-    ensures { result ≡ layer_of refusal }
-{
-    match refusal.number() {
-        0..=14 => Layer::Bytes,
-        15 | 16 => Layer::Form,
-        _ => Layer::League,
+impl From<Refusal> for Layer {
+    ghost from_gives = { λ refusal layer. layer ≡ layer_of refusal };
+
+    fn from(refusal: Refusal) -> Layer {
+        match refusal {
+            Refusal::Turn | Refusal::Range => Layer::Form,
+            Refusal::Round
+            | Refusal::Venue
+            | Refusal::Met
+            | Refusal::Idle
+            | Refusal::Count
+            | Refusal::Team => Layer::League,
+            _ => Layer::Bytes,
+        }
     }
 }
 
@@ -57,7 +64,7 @@ pub(crate) fn bytes_fault(place: usize, refusal: Refusal) -> Fault
     Fault {
         refusal,
         place,
-        layer: layer_of(refusal),
+        layer: Layer::from(refusal),
         round: None,
         venue: None,
     }
@@ -67,19 +74,22 @@ pub(crate) fn bytes_fault(place: usize, refusal: Refusal) -> Fault
 pub(crate) fn fault_of(stage: Stage, command: Command, place: usize, refusal: Refusal) -> Fault
     ensures { result ≡ fault_of stage command place refusal }
 {
-    let number = refusal.number();
-    let mut fault = bytes_fault(place, refusal);
-    if let Stage::Open(_, round) = stage
-        && 17 <= number
-        && number <= 20
-    {
-        fault.round = Some(round);
+    let round = match (stage, refusal) {
+        (
+            Stage::Open { round, .. },
+            Refusal::Round | Refusal::Venue | Refusal::Met | Refusal::Idle,
+        ) => Some(round),
+        _ => None,
+    };
+    let venue = match (command, refusal) {
+        (Command::Meet { venue, .. }, Refusal::Round | Refusal::Venue | Refusal::Met) => {
+            Some(venue)
+        }
+        _ => None,
+    };
+    Fault {
+        round,
+        venue,
+        ..bytes_fault(place, refusal)
     }
-    if let Command::Meet { venue, .. } = command
-        && 17 <= number
-        && number <= 19
-    {
-        fault.venue = Some(venue);
-    }
-    fault
 }

@@ -9,7 +9,6 @@ mod marks;
 mod parse;
 mod reader;
 pub mod sheet;
-mod side;
 mod stage;
 pub mod teams;
 #[cfg(test)]

@@ -1,32 +1,34 @@
-// A set of pairs of numbers below 128, as a table of marks.
+// A set of pairs of numbers below 128, as a table of marks with a row for each first number.
 ghost use Rattle.std.specs.Prelude.{◌≡◌, ℕ, ◌<◌, Bool, false, ◌&&◌, ◌||◌, ◌==◌};
 ghost use Rattle.sheets.specs.Tables.{Shows};
 
 #[derive(Drop)]
 pub(crate) struct Marks {
-    pub(crate) table: [bool; 16384],
+    pub(crate) rows: [[bool; 128]; 128],
 }
 
 impl Marks {
     pub(crate) fn new() -> Marks
-        ensures { Shows result.table (λ a b. false) }
+        ensures { Shows result.rows (λ a b. false) }
     {
         Marks {
-            table: [false; 16384],
+            rows: [[false; 128]; 128],
         }
     }
 
     pub(crate) fn has(&self, a: u8, b: u8) -> bool
         requires { (a < 128) × (b < 128) }
-        ensures { (test : ℕ → ℕ → Bool) → Shows self.now.table test → result ≡ test a b }
+        ensures { (test : ℕ → ℕ → Bool) → Shows self.now.rows test → result ≡ test a b }
     {
-        self.table[a as usize * 128 + b as usize]
+        self.rows[a as usize][b as usize]
     }
 
+    #[tactic(auto, using(crate::proofs::Marked::one_marked))]
     pub(crate) fn add(&mut self, a: u8, b: u8)
         requires { (a < 128) × (b < 128) }
-        ensures { (test : ℕ → ℕ → Bool) → Shows self.old.table test → Shows self.new.table (λ x y. (a == x && b == y) || test x y) }
+        ensures { (test : ℕ → ℕ → Bool) → Shows self.old.rows test → Shows self.new.rows (λ x y. (a == x && b == y) || test x y) }
     {
-        self.table[a as usize * 128 + b as usize] = true;
+        let row = &mut self.rows[a as usize];
+        row[b as usize] = true;
     }
 }

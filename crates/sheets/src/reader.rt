@@ -6,6 +6,7 @@ use crate::marks::Marks;
 use crate::stage::Stage;
 
 pub(crate) mod calls;
+mod meeting;
 
 // The tables hold who has played in which round and at which venue, and who has met. A round's next meeting has a venue of
 // `free` or more.

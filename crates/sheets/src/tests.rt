@@ -1,7 +1,7 @@
 // What the reader answers on examples. Each answer is compared with that of a second reading.
 use crate::check::check;
 use crate::entry::league_check;
-use crate::tests::answers::{Told, told_of};
+use crate::tests::answers::Told;
 use crate::tests::second::read_again;
 use std::alloc::Global;
 use std::process::Abort;
@@ -26,22 +26,27 @@ const GOOD: [u8; 138] = *b"\x01\x07\
 \x05\x1c\x00";
 
 // What check answers. It is what the second reading answers, and the number and the place are what league_check gives.
-fn answer(rt: &impl Abort, heap: Global, bytes: &[u8]) -> Result<Option<Told>, Fail> {
-    let first = told_of(check(bytes));
+fn answer(rt: &impl Abort, heap: Global, bytes: &[u8]) -> Result<Result<(), Told>, Fail> {
+    let first = check(bytes).map_err(Told::from);
     assert_eq!(rt; read_again(heap, bytes)?, first);
     let packed = league_check(bytes);
     match first {
-        Some(fault) => {
+        Err(fault) => {
             assert_eq!(rt; packed / 65536, fault.number as u32);
             assert_eq!(rt; (packed % 65536) as usize, fault.place);
         }
-        None => assert_eq!(rt; packed, 0),
+        Ok(()) => assert_eq!(rt; packed, 0),
     }
     Ok(first)
 }
 
 // What is answered to some bytes and more bytes after them.
-fn joined(rt: &impl Abort, heap: Global, front: &[u8], more: &[u8]) -> Result<Option<Told>, Fail> {
+fn joined(
+    rt: &impl Abort,
+    heap: Global,
+    front: &[u8],
+    more: &[u8],
+) -> Result<Result<(), Told>, Fail> {
     let mut bytes = front.to_vec(heap)?;
     bytes.extend_from_slice(more)?;
     answer(rt, heap, &bytes)

@@ -1,4 +1,5 @@
-// The check of a sheet as a program written in C calls it.
+// The check of a sheet as a program written in C calls it. A crate is a library or a static library, so the function that
+// programs in Rattle call stays in crate sheets, and this one gives it its name in C.
 #![tactic(auto)]
 
 ghost use Rattle.sheets.specs.Readings.{Packed};

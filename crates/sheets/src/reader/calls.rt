@@ -1,5 +1,5 @@
 // The questions of each command, and what is noted of it.
-ghost use Rattle.std.specs.Prelude.{◌≡◌, ◌<◌, ◌≤◌, Bool, List, [], ◌∷◌, IfNone, Some as Answer, None as NoAnswer, MatchResult};
+ghost use Rattle.std.specs.Prelude.{◌≡◌, Bool, List, [], ◌∷◌, IfOk, Some as Answer, None as NoAnswer, MatchResult};
 ghost use Rattle.sheets.specs.Judgements.{everyone, question};
 ghost use Rattle.sheets.specs.Meetings.{last_round, meetings, any, in_round};
 ghost use Rattle.sheets.specs.Tables.{Keeps};
@@ -10,8 +10,9 @@ ghost use Rattle.sheets.specs.declared.stage.Stage.TheVariants.{Open as InRound}
 use crate::command::Command;
 use crate::marks::Marks;
 use crate::reader::Reader;
-use crate::side::is_side;
+use crate::reader::meeting::{Meeting, OpenRound};
 use crate::stage::Stage;
+use groups::group::is_order;
 use groups::refusal::Refusal;
 
 impl Reader {
@@ -27,46 +28,56 @@ impl Reader {
         }
     }
 
-    // The first no to a meeting in an open round.
-    fn refusal(&self, side: u8, round: u8, venue: u8, lower: u8, higher: u8) -> Option<Refusal>
-        requires { (side < 128) × (round < 128) }
-        ensures fits { IfNone result ((venue < side) × (lower < higher) × (higher ≤ side)) }
-        ensures first { (past : List ReadCommand) → Keeps self.now past → self.now.stage ≡ InRound side round → result ≡ question past (MeetingRead venue lower higher) }
+    // A meeting in an open round, or the first no to it.
+    fn meeting(
+        &self,
+        current: OpenRound,
+        venue: u8,
+        lower: u8,
+        higher: u8,
+    ) -> Result<Meeting, Refusal>
+        ensures same { IfOk result (λ m. (m.round ≡ current.round) × (m.venue ≡ venue) × (m.lower ≡ lower) × (m.higher ≡ higher)) }
+        ensures asked { (past : List ReadCommand) → Keeps self.now past → self.now.stage ≡ InRound current.side current.round → MatchResult result (λ _. question past (MeetingRead venue lower higher) ≡ NoAnswer) (λ q. question past (MeetingRead venue lower higher) ≡ Answer q) }
     {
+        let OpenRound { side, round } = current;
         if venue >= side || venue < self.free || lower >= higher || higher > side {
-            return Some(Refusal::Range);
+            return Err(Refusal::Range);
         }
         if self.rounds.has(round, lower) || self.rounds.has(round, higher) {
-            return Some(Refusal::Round);
+            return Err(Refusal::Round);
         }
         if self.venues.has(venue, lower) || self.venues.has(venue, higher) {
-            return Some(Refusal::Venue);
+            return Err(Refusal::Venue);
         }
         if self.met.has(lower, higher) {
-            return Some(Refusal::Met);
+            return Err(Refusal::Met);
         }
-        None
+        Ok(Meeting {
+            round,
+            venue,
+            lower,
+            higher,
+        })
     }
 
-    // Whether all teams have played in a round.
-    fn all_played(&self, side: u8, round: u8) -> bool
-        requires { (side < 128) × (round < 128) }
-        ensures { (past : List ReadCommand) → Keeps self.now past → result ≡ everyone side (λ u. any (in_round round u) (meetings past)) }
+    // Whether all teams have played in an open round.
+    fn all_played(&self, current: OpenRound) -> bool
+        ensures { (past : List ReadCommand) → Keeps self.now past → result ≡ everyone current.side (λ u. any (in_round current.round u) (meetings past)) }
     {
-        for team in 0..side + 1 {
-            if !self.rounds.has(round, team) {
-                return false;
-            }
-        }
-        true
+        (0..current.side + 1).all(|team| self.rounds.has(current.round, team))
     }
 
-    // Notes a meeting of an open round.
-    fn note(&mut self, round: u8, venue: u8, lower: u8, higher: u8)
-        requires { (round < 128) × ((venue < 127) × ((lower < 128) × (higher < 128))) }
+    // Notes a meeting of the open round.
+    fn note(&mut self, meeting: Meeting)
         ensures same { self.new.stage ≡ self.old.stage }
-        ensures noted { (past : List ReadCommand) → Keeps self.old past → last_round past ≡ round → Keeps self.new (MeetingRead venue lower higher ∷ past) }
+        ensures noted { (past : List ReadCommand) → Keeps self.old past → last_round past ≡ meeting.round → Keeps self.new (MeetingRead meeting.venue meeting.lower meeting.higher ∷ past) }
     {
+        let Meeting {
+            round,
+            venue,
+            lower,
+            higher,
+        } = meeting;
         self.rounds.add(round, lower);
         self.rounds.add(round, higher);
         self.venues.add(venue, lower);
@@ -80,46 +91,47 @@ impl Reader {
         ensures { (past : List ReadCommand) → Keeps self.old past → MatchResult result (λ _. (question past command ≡ NoAnswer) × Keeps self.new (command ∷ past)) (λ q. question past command ≡ Answer q) }
     {
         match (self.stage, command) {
-            (Stage::Start, Command::Side(n)) => {
-                if !is_side(n) {
+            (Stage::Start, Command::Side(side)) => {
+                if !is_order(side) {
                     return Err(Refusal::Range);
                 }
-                self.stage = Stage::Between(n, 0);
+                self.stage = Stage::Between { side, closed: 0 };
             }
-            (Stage::Between(n, closed), Command::Round(round)) => {
-                if closed >= n {
+            (Stage::Between { side, closed }, Command::Round(round)) => {
+                if closed >= side {
                     return Err(Refusal::Turn);
                 }
                 if round != closed {
                     return Err(Refusal::Range);
                 }
                 self.free = 0;
-                self.stage = Stage::Open(n, round);
+                self.stage = Stage::Open { side, round };
             }
             (
-                Stage::Open(n, round),
+                Stage::Open { side, round },
                 Command::Meet {
                     venue,
                     lower,
                     higher,
                 },
             ) => {
-                if let Some(refusal) = self.refusal(n, round, venue, lower, higher) {
-                    return Err(refusal);
-                }
-                self.note(round, venue, lower, higher);
+                let meeting = self.meeting(OpenRound { side, round }, venue, lower, higher)?;
+                self.note(meeting);
             }
-            (Stage::Open(n, round), Command::Close) => {
-                if !self.all_played(n, round) {
+            (Stage::Open { side, round }, Command::Close) => {
+                if !self.all_played(OpenRound { side, round }) {
                     return Err(Refusal::Idle);
                 }
-                self.stage = Stage::Between(n, round + 1);
+                self.stage = Stage::Between {
+                    side,
+                    closed: round + 1,
+                };
             }
-            (Stage::Between(n, closed), Command::End(count)) => {
-                if closed != n {
+            (Stage::Between { side, closed }, Command::End(count)) => {
+                if closed != side {
                     return Err(Refusal::Turn);
                 }
-                if count != n as u16 * (n as u16 + 1) / 2 {
+                if count != side as u16 * (side as u16 + 1) / 2 {
                     return Err(Refusal::Count);
                 }
                 self.stage = Stage::Done;

@@ -1,6 +1,7 @@
 // Cases that the document describes and does not list.
 ghost use Rattle.std.specs.Prelude.{◌<◌};
 
+use crate::fault::Layer;
 use crate::tests::answers::{idle, league, plain};
 use crate::tests::{GOOD, answer, joined};
 use std::test::Fail;
@@ -9,10 +10,10 @@ use std::test::Fail;
 fn sides(rt: HostRuntime) -> Result<(), Fail> {
     let heap = rt.alloc();
     for side in [3, 5, 127] {
-        assert_eq!(rt; answer(&rt, heap, &[1, side])?, plain(14, 2, "bytes"));
+        assert_eq!(rt; answer(&rt, heap, &[1, side])?, plain(14, 2, Layer::Bytes));
     }
     for side in [0, 1, 2, 4, 126, 128, 129, 255] {
-        assert_eq!(rt; answer(&rt, heap, &[1, side])?, plain(16, 0, "form"));
+        assert_eq!(rt; answer(&rt, heap, &[1, side])?, plain(16, 0, Layer::Form));
     }
     Ok(())
 }
@@ -24,19 +25,19 @@ fn ends_of_ranges(rt: HostRuntime) -> Result<(), Fail> {
     let open = b"\x01\x7f\x02\x00";
     assert_eq!(rt;
         joined(&rt, heap, open, &[3, 126, 126, 127])?,
-        plain(14, 8, "bytes")
+        plain(14, 8, Layer::Bytes)
     );
     assert_eq!(rt;
         joined(&rt, heap, open, &[3, 127, 126, 127])?,
-        plain(16, 4, "form")
+        plain(16, 4, Layer::Form)
     );
     assert_eq!(rt;
         joined(&rt, heap, open, &[3, 126, 127, 127])?,
-        plain(16, 4, "form")
+        plain(16, 4, Layer::Form)
     );
     assert_eq!(rt;
         joined(&rt, heap, open, &[3, 126, 126, 128])?,
-        plain(16, 4, "form")
+        plain(16, 4, Layer::Form)
     );
     Ok(())
 }
@@ -45,10 +46,16 @@ fn ends_of_ranges(rt: HostRuntime) -> Result<(), Fail> {
 fn operands_cut_off(rt: HostRuntime) -> Result<(), Fail> {
     let heap = rt.alloc();
     for end in 5..8 {
-        assert_eq!(rt; answer(&rt, heap, &GOOD[0..end])?, plain(14, 4, "bytes"));
+        assert_eq!(rt;
+            answer(&rt, heap, &GOOD[0..end])?,
+            plain(14, 4, Layer::Bytes)
+        );
     }
     for end in 136..138 {
-        assert_eq!(rt; answer(&rt, heap, &GOOD[0..end])?, plain(14, 135, "bytes"));
+        assert_eq!(rt;
+            answer(&rt, heap, &GOOD[0..end])?,
+            plain(14, 135, Layer::Bytes)
+        );
     }
     Ok(())
 }
@@ -56,20 +63,26 @@ fn operands_cut_off(rt: HostRuntime) -> Result<(), Fail> {
 #[test]
 fn after_the_end(rt: HostRuntime) -> Result<(), Fail> {
     let heap = rt.alloc();
-    assert_eq!(rt; joined(&rt, heap, &GOOD, b"\xff")?, plain(13, 138, "bytes"));
+    assert_eq!(rt;
+        joined(&rt, heap, &GOOD, b"\xff")?,
+        plain(13, 138, Layer::Bytes)
+    );
     assert_eq!(rt;
         joined(&rt, heap, &GOOD, b"\x05\x1c")?,
-        plain(14, 138, "bytes")
+        plain(14, 138, Layer::Bytes)
     );
     assert_eq!(rt;
         joined(&rt, heap, &GOOD, b"\x02\x07")?,
-        plain(15, 138, "form")
+        plain(15, 138, Layer::Form)
     );
     assert_eq!(rt;
         joined(&rt, heap, &GOOD, b"\x03\x00\x00\x07")?,
-        plain(15, 138, "form")
+        plain(15, 138, Layer::Form)
     );
-    assert_eq!(rt; joined(&rt, heap, &GOOD, &GOOD)?, plain(15, 138, "form"));
+    assert_eq!(rt;
+        joined(&rt, heap, &GOOD, &GOOD)?,
+        plain(15, 138, Layer::Form)
+    );
     Ok(())
 }
 
@@ -78,11 +91,11 @@ fn close_missing(rt: HostRuntime) -> Result<(), Fail> {
     let heap = rt.alloc();
     assert_eq!(rt;
         joined(&rt, heap, &GOOD[0..20], &GOOD[21..138])?,
-        plain(15, 20, "form")
+        plain(15, 20, Layer::Form)
     );
     assert_eq!(rt;
         joined(&rt, heap, &GOOD[0..134], &GOOD[135..138])?,
-        plain(15, 134, "form")
+        plain(15, 134, Layer::Form)
     );
     Ok(())
 }
@@ -108,15 +121,15 @@ fn rounds_missing_and_twice(rt: HostRuntime) -> Result<(), Fail> {
     let heap = rt.alloc();
     assert_eq!(rt;
         joined(&rt, heap, &GOOD[0..2], &GOOD[21..138])?,
-        plain(16, 2, "form")
+        plain(16, 2, Layer::Form)
     );
     assert_eq!(rt;
         joined(&rt, heap, &GOOD[0..116], &GOOD[135..138])?,
-        plain(15, 116, "form")
+        plain(15, 116, Layer::Form)
     );
     assert_eq!(rt;
         joined(&rt, heap, &GOOD[0..21], &GOOD[2..138])?,
-        plain(16, 21, "form")
+        plain(16, 21, Layer::Form)
     );
     // the meetings of round 0 once more, as those of round 1
     let mut bytes = GOOD;
@@ -144,10 +157,10 @@ fn rounds_exchanged(rt: HostRuntime) -> Result<(), Fail> {
             put_round(&mut bytes, other, one);
             assert_eq!(rt;
                 answer(&rt, rt.alloc(), &bytes)?,
-                plain(16, 2 + 19 * one, "form")
+                plain(16, 2 + 19 * one, Layer::Form)
             );
             bytes.swap(3 + 19 * one, 3 + 19 * other);
-            assert_eq!(rt; answer(&rt, rt.alloc(), &bytes)?, None);
+            assert_eq!(rt; answer(&rt, rt.alloc(), &bytes)?, Ok(()));
         }
     }
     Ok(())
@@ -159,15 +172,15 @@ fn wrong_counts(rt: HostRuntime) -> Result<(), Fail> {
     let rounds = &GOOD[0..135];
     assert_eq!(rt;
         joined(&rt, heap, rounds, b"\x05\x1b\x00")?,
-        plain(21, 135, "league")
+        plain(21, 135, Layer::League)
     );
     assert_eq!(rt;
         joined(&rt, heap, rounds, b"\x05\x1c\x01")?,
-        plain(21, 135, "league")
+        plain(21, 135, Layer::League)
     );
     assert_eq!(rt;
         joined(&rt, heap, rounds, b"\x05\x00\x1c")?,
-        plain(21, 135, "league")
+        plain(21, 135, Layer::League)
     );
     Ok(())
 }

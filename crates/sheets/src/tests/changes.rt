@@ -18,14 +18,15 @@ impl Tally {
         }
     }
 
-    fn add(&mut self, answer: Option<Told>) {
-        let Some(fault) = answer else {
-            self.accepted = self.accepted.saturating_add(1);
-            return;
-        };
-        let k = (fault.number as usize).saturating_sub(13);
-        if k < 9 {
-            self.refused[k] = self.refused[k].saturating_add(1);
+    fn add(&mut self, answer: Result<(), Told>) {
+        match answer {
+            Ok(()) => self.accepted = self.accepted.saturating_add(1),
+            Err(fault) => {
+                let k = (fault.number as usize).saturating_sub(13);
+                if let Some(count) = self.refused.get_mut(k) {
+                    *count = count.saturating_add(1);
+                }
+            }
         }
     }
 }

@@ -1,16 +1,16 @@
-use Rattle.std.proofs.Common.{arith}
-use Rattle.sheets.proofs.Scanning.{no_round, not_short, scan_begins, scan_found, scan_on, scan_ends}
-use Rattle.sheets.proofs.sheet.Sheet.meeting.Goals.{then-round-side-via-then-round-side, then-round-side-via-else-round-side+then-start-self}
+use Rattle.std.proofs.Common.{rules, arith}
+use Rattle.sheets.proofs.Scanning.{round_there, no_round, scan_begins, scan_found, scan_on, scan_ends}
 use Rattle.sheets.proofs.sheet.Sheet.meeting.Goals as goal
 
 pub returns-then-round-side : goal.returns-then-round-side
-returns-then-round-side c = λ s.
-    let same = c.side-side.ensures s in
-    elim c.then-round-side.branch [
-      | then-round-side-via-then-round-side w ↦ no_round s.side s.square _ _ (omega (arith, same, w.if-round-side.true))
-      | then-round-side-via-else-round-side+then-start-self w ↦
-          absurd (omega (arith, not_short _ s c.args.round c.side-side.result same w.if-round-side.false, w.if-start-self.true))
-    ]
+returns-then-round-side c = λ s. no_round s.side s.square _ _ (omega (arith, c.side-side.ensures s))
+
+pub slice_bounds-rest-start : goal.slice_bounds-rest-start
+slice_bounds-rest-start c =
+    let there = round_there _ c.args.self.now.real c.args.round _ c.side-side.ensures c.if-round-side.false in search rules
+
+pub slice_bounds-rest-count : goal.slice_bounds-rest-count
+slice_bounds-rest-count c = round_there _ c.args.self.now.real c.args.round _ c.side-side.ensures c.if-round-side.false
 
 pub loop-at-init : goal.loop-at-init
 loop-at-init c = λ s. scan_begins _ s c.args.round c.side-side.result (c.side-side.ensures s) c.if-round-side.false c.args.venue
