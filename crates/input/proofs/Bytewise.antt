@@ -6,12 +6,12 @@
 --     orders_from o n cs      what the bytes cs give where the orders o and the numeral n are read
 --     numbers_from vs n cs    what the bytes cs give where the numbers vs and the numeral n are read
 --     with_rest o vs          the orders o with the values vs of the words that are left
-use Rattle.std.proofs.Common.{◌≡◌, ℕ, ◌+◌, ◌*◌, ◌<◌, ◌≤◌, min, true, false, cond, eqb, leb, List, [], ◌∷◌, ◌++◌, map, length, get_or, drop, Some, None, Option, unwrap_or, sym, refl, ap, ◌∙◌, inl, inr, append_assoc, arith}
+use Rattle.std.proofs.Common.{◌≡◌, ℕ, ◌+◌, ◌*◌, min, true, false, cond, eqb, leb, List, [], ◌∷◌, ◌++◌, map, Some, None, Option, unwrap_or, sym, refl, ap, ◌∙◌, inl, inr, append_assoc, arith}
 use Rattle.std.specs.Option.{option_map, option_to_list}
 use Rattle.std.specs.Int.Digits.{number_from_digits}
 use Rattle.std.proofs.lemmas.Int.Digits.{number_push}
-use Rattle.std.proofs.lemmas.List.{append-nil, map_push, at_drop_more, at_drop_all}
-use Rattle.std.proofs.lemmas.Bool.{cases_Bool, eqb-true, leb-true, le-leb, ne_eqb, and_from, and_parts}
+use Rattle.std.proofs.lemmas.List.{append-nil, map_push}
+use Rattle.std.proofs.lemmas.Bool.{cases_Bool, eqb-true, leb-true, le-leb, and_from, and_parts}
 use Rattle.input.specs.Numerals.{Digit, is_digit, digit_of, value_of, all_digits, numeral_of}
 use Rattle.input.specs.Read.{onto, words, filled, before, values_of, as_orders, so_far, and_then, orders_of, numbers_of}
 use Rattle.input.specs.declared.orders.Orders.{Orders}
@@ -73,9 +73,6 @@ pub digit_from : (c : ℕ) → is_digit c ≡ true → Digit c
 digit_from c e =
     let p = and_parts (leb 0x30 c) (leb c 0x39) e in
     (leb-true 0x30 c p.0, leb-true c 0x39 p.1)
-
-digit_not : (c : ℕ) → (Digit c → ⊥) → is_digit c ≡ false
-digit_not c d = elim (cases_Bool (is_digit c)) [ inl t ↦ absurd (d (digit_from c t)) | inr f ↦ f ]
 
 saturates : (n d : ℕ) → min (n * 10 + d) 255 ≡ min (min n 255 * 10 + d) 255
 saturates n d = omega arith
@@ -206,31 +203,3 @@ numbers_bytewise vs w (c ∷ cs) ds =
 
 pub numbers_start : (bytes : List ℕ) → numbers_from [] None bytes ≡ numbers_of bytes
 numbers_start bytes = numbers_bytewise [] [] bytes refl ∙ same_values (numbers_of bytes)
-
--- one step of a loop over the bytes, and its end
-
-module _ (line : List ℕ) (i : ℕ) (o : Option Orders) (n : Option ℕ) (inv : orders_from o n (drop i line) ≡ orders_of line) where
-  pub orders_digit : i < length line → Digit (get_or line i 0) → orders_from o (after n (get_or line i 0)) (drop (i + 1) line) ≡ orders_of line
-  orders_digit h d = (rw (digit_is (get_or line i 0) d) at (sym (at_drop_more (orders_from o n) line i 0 h))) ∙ inv
-
-  pub orders_x : i < length line → get_or line i 0 ≡ 0x78 → and_then (closed o n) (λ more. orders_from (Some more) None (drop (i + 1) line)) ≡ orders_of line
-  orders_x h e = (rw e at (sym (at_drop_more (orders_from o n) line i 0 h))) ∙ inv
-
-  pub orders_other : i < length line → (Digit (get_or line i 0) → ⊥) → (get_or line i 0 ≡ 0x78 → ⊥) → None ≡ orders_of line
-  orders_other h d x = (rw (digit_not (get_or line i 0) d, ne_eqb (get_or line i 0) 0x78 x) at (sym (at_drop_more (orders_from o n) line i 0 h))) ∙ inv
-
-  pub orders_end : length line ≤ i → closed o n ≡ orders_of line
-  orders_end h = sym (at_drop_all (orders_from o n) line i h) ∙ inv
-
-module _ (line : List ℕ) (i : ℕ) (vs : List ℕ) (n : Option ℕ) (inv : numbers_from vs n (drop i line) ≡ numbers_of line) where
-  pub numbers_digit : i < length line → Digit (get_or line i 0) → numbers_from vs (after n (get_or line i 0)) (drop (i + 1) line) ≡ numbers_of line
-  numbers_digit h d = (rw (digit_is (get_or line i 0) d) at (sym (at_drop_more (numbers_from vs n) line i 0 h))) ∙ inv
-
-  pub numbers_blank : i < length line → get_or line i 0 ≡ 0x20 → numbers_from (vs ++ option_to_list n) None (drop (i + 1) line) ≡ numbers_of line
-  numbers_blank h e = (rw e at (sym (at_drop_more (numbers_from vs n) line i 0 h))) ∙ inv
-
-  pub numbers_other : i < length line → (Digit (get_or line i 0) → ⊥) → (get_or line i 0 ≡ 0x20 → ⊥) → None ≡ numbers_of line
-  numbers_other h d x = (rw (digit_not (get_or line i 0) d, ne_eqb (get_or line i 0) 0x20 x) at (sym (at_drop_more (numbers_from vs n) line i 0 h))) ∙ inv
-
-  pub numbers_end : length line ≤ i → (us : List ℕ) → us ≡ vs ++ option_to_list n → Some us ≡ numbers_of line
-  numbers_end h us e = ap Some e ∙ sym (at_drop_all (numbers_from vs n) line i h) ∙ inv

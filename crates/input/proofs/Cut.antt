@@ -1,17 +1,6 @@
 -- A line is cut at its line feed. Assumes nothing.
-use Rattle.std.proofs.Common.{◌≡◌, ℕ, ◌+◌, ◌-◌, ◌<◌, List, [], ◌∷◌, ◌++◌, length, get_or, take, drop, sym, refl, ap, ◌∙◌, subst, inl, inr, arith}
-use Rattle.std.proofs.lemmas.List.{take_rest, take-append-drop, drop_more}
-use Rattle.input.specs.Lines.{Ends, NoLine, FirstLine, LastLine}
-
-pub cut_at : (bytes : List ℕ) (i : ℕ) → i < length bytes → Ends (get_or bytes i 0) → NoLine (take i bytes)
-    → FirstLine bytes (take (i - 0) bytes) (take (length bytes - (i + 1)) (drop (i + 1) bytes))
-cut_at bytes i h e none =
-    let same : i - 0 ≡ i = omega arith in
-    rw (same, take_rest bytes (i + 1))
-    (record {
-      whole = sym (take-append-drop i bytes) ∙ ap (λ (x : List ℕ). take i bytes ++ x) (drop_more bytes i 0 h) ∙ ap (λ (c : ℕ). take i bytes ++ (c ∷ drop (i + 1) bytes)) e;
-      unbroken = none;
-    })
+use Rattle.std.proofs.Common.{◌≡◌, ℕ, List, [], ◌∷◌, ◌++◌, sym, refl, ◌∙◌, subst, inl, inr}
+use Rattle.input.specs.Lines.{NoLine, FirstLine, LastLine}
 
 -- where no line ends, there is no first line
 cut_none : (w rest : List ℕ) → NoLine (w ++ (0x0a ∷ rest)) → ⊥

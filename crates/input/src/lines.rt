@@ -6,12 +6,8 @@ ghost use Rattle.input.specs.Lines.{FirstLine, NoLine, LastLine};
 pub fn split_line(input: &[u8]) -> Option<(&[u8], &[u8])>
     ensures { MatchOption result (NoLine input.now) (λ p. FirstLine input.now p.0.now p.1.now) }
 {
-    for (i, byte) in input.iter().enumerate() {
-        if *byte == b'\n' {
-            return Some((&input[0..i], &input[i + 1..]));
-        }
-    }
-    None
+    let end = input.iter().position(|byte| *byte == b'\n')?;
+    Some((&input[..end], &input[end + 1..]))
 }
 
 // The last line of an input, with or without its line feed, or None where more stands after a line feed.
@@ -19,12 +15,8 @@ pub fn last_line(input: &[u8]) -> Option<&[u8]>
     ensures { MatchOption result ((w : List ℕ) → LastLine input.now w → ⊥) (λ w. LastLine input.now w.now) }
 {
     match split_line(input) {
-        Some((line, rest)) => {
-            if rest.len() > 0 {
-                return None;
-            }
-            Some(line)
-        }
         None => Some(input),
+        Some((line, [])) => Some(line),
+        Some(_) => None,
     }
 }
