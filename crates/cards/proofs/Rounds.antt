@@ -1,40 +1,40 @@
 -- The lines of a card, round after round. Assumes nothing.
-use Rattle.std.proofs.Common.{◌≡◌, ℕ, ◌+◌, ◌*◌, ◌<◌, ◌≤◌, List, [], ◌∷◌, ◌++◌, length, get_or, drop, sym, refl, ap, ◌∙◌, arith}
-use Rattle.std.proofs.lemmas.List.{append_assoc, append-nil, drop_more, length-drop}
-use Rattle.cards.specs.Texts.{team_line, round_line, rounds, card_text}
+--     entry r x       the line of round r with its three bytes x
+--     entries r xs    the lines of the rounds from r on, with their bytes xs
+use Rattle.std.proofs.Common.{◌≡◌, ℕ, suc, zero, ◌+◌, ◌*◌, ◌<◌, ◌≤◌, List, [], ◌∷◌, ◌++◌, length, get_or, take, sym, refl, ap, ◌∙◌, arith}
+use Rattle.std.specs.Simd.{first_chunks}
+use Rattle.std.proofs.lemmas.List.{append_assoc, append-nil, length-take, take_more}
+use Rattle.cards.specs.Texts.{round_line, rounds}
+
+abbrev pub entry : ℕ → List ℕ → List ℕ
+entry r x = round_line r (get_or x 0 0) (get_or x 1 0) (get_or x 2 0)
+
+abbrev pub entries : ℕ → List (List ℕ) → List ℕ
+entries r [] = []
+entries r (x ∷ xs) = entry r x ++ entries (r + 1) xs
+
+entries_push : (r : ℕ) (xs : List (List ℕ)) (x : List ℕ) → entries r (xs ++ (x ∷ [])) ≡ entries r xs ++ entry (r + length xs) x
+entries_push r [] x = append-nil (entry r x) ∙ ap (λ (k : ℕ). entry k x) (omega arith)
+entries_push r (y ∷ xs) x =
+    ap (λ (text : List ℕ). entry r y ++ text)
+    (entries_push (r + 1) xs x ∙ ap (λ (k : ℕ). entries (r + 1) xs ++ entry k x) (omega arith))
+    ∙ sym (append_assoc (entry r y) (entries (r + 1) xs) (entry (r + length (y ∷ xs)) x))
+
+pub entries_more : (xs : List (List ℕ)) (i : ℕ) → i < length xs → entries 0 (take i xs) ++ entry i (get_or xs i []) ≡ entries 0 (take (i + 1) xs)
+entries_more xs i h =
+    let size : i ≡ 0 + length (take i xs) = omega (arith, length-take i xs) in
+    ap (λ (k : ℕ). entries 0 (take i xs) ++ entry k (get_or xs i [])) size
+    ∙ sym (entries_push 0 (take i xs) (get_or xs i []))
+    ∙ ap (entries 0) (sym (take_more xs i [] h))
 
 -- fewer than three bytes are no round
-rounds_over : (r : ℕ) (bs : List ℕ) → length bs < 3 → rounds r bs ≡ []
-rounds_over r [] h = refl
-rounds_over r (a ∷ []) h = refl
-rounds_over r (a ∷ (v ∷ [])) h = refl
-rounds_over r (a ∷ (v ∷ (o ∷ bs))) h = absurd (omega arith)
-
--- one round of the bytes from place 3·r on
-rounds_more : (r : ℕ) (bs : List ℕ) → 3 * r + 2 < length bs
-    → rounds r (drop (3 * r) bs) ≡ round_line r (get_or bs (3 * r) 0) (get_or bs (3 * r + 1) 0) (get_or bs (3 * r + 2) 0) ++ rounds (r + 1) (drop (3 * (r + 1)) bs)
-rounds_more r bs h =
-    let m : ℕ = 3 * r in
-    let e1 : drop m bs ≡ get_or bs m 0 ∷ drop (m + 1) bs = drop_more bs m 0 (omega arith) in
-    let e2 : drop (m + 1) bs ≡ get_or bs (m + 1) 0 ∷ drop (m + 2) bs =
-    drop_more bs (m + 1) 0 (omega arith) ∙ ap (λ (k : ℕ). get_or bs (m + 1) 0 ∷ drop k bs) (omega arith) in
-    let e3 : drop (m + 2) bs ≡ get_or bs (m + 2) 0 ∷ drop (3 * (r + 1)) bs =
-    drop_more bs (m + 2) 0 (omega arith) ∙ ap (λ (k : ℕ). get_or bs (m + 2) 0 ∷ drop k bs) (omega arith) in
-    ap (rounds r) (e1 ∙ ap (λ (xs : List ℕ). get_or bs m 0 ∷ xs) (e2 ∙ ap (λ (xs : List ℕ). get_or bs (m + 1) 0 ∷ xs) e3))
-
--- a round that is written, with the rounds to come
-pub rounds_step : (before after bs : List ℕ) (r : ℕ) → 3 * r + 2 < length bs
-    → after ≡ before ++ round_line r (get_or bs (3 * r) 0) (get_or bs (3 * r + 1) 0) (get_or bs (3 * r + 2) 0)
-    → after ++ rounds (r + 1) (drop (3 * (r + 1)) bs) ≡ before ++ rounds r (drop (3 * r) bs)
-rounds_step before after bs r h e =
-    let one : List ℕ = round_line r (get_or bs (3 * r) 0) (get_or bs (3 * r + 1) 0) (get_or bs (3 * r + 2) 0) in
-    let rest : List ℕ = rounds (r + 1) (drop (3 * (r + 1)) bs) in
-    ap (λ (xs : List ℕ). xs ++ rest) e ∙ append_assoc before one rest ∙ ap (λ (xs : List ℕ). before ++ xs) (sym (rounds_more r bs h))
-
--- all rounds are written: start is the text before the card, and headed that with its head
-pub card_done : (start headed done bs : List ℕ) (u r : ℕ) → length bs ≤ 3 * r + 2 → headed ≡ start ++ team_line u
-    → done ++ rounds r (drop (3 * r) bs) ≡ headed ++ rounds 0 bs → done ≡ start ++ card_text u bs
-card_done start headed done bs u r h e f =
-    let over : rounds r (drop (3 * r) bs) ≡ [] = rounds_over r (drop (3 * r) bs) (omega (arith, length-drop (3 * r) bs)) in
-    sym (append-nil done) ∙ ap (λ (xs : List ℕ). done ++ xs) (sym over) ∙ f
-    ∙ ap (λ (xs : List ℕ). xs ++ rounds 0 bs) e ∙ append_assoc start (team_line u) (rounds 0 bs)
+pub entries_all : (k r : ℕ) (bs : List ℕ) → 3 * k ≤ length bs → length bs < 3 * k + 3 → entries r (first_chunks 3 k bs) ≡ rounds r bs
+entries_all zero r [] low high = refl
+entries_all zero r (a ∷ []) low high = refl
+entries_all zero r (a ∷ (v ∷ [])) low high = refl
+entries_all zero r (a ∷ (v ∷ (o ∷ bs))) low high = absurd (omega arith)
+entries_all (suc k) r [] low high = absurd (omega arith)
+entries_all (suc k) r (a ∷ []) low high = absurd (omega arith)
+entries_all (suc k) r (a ∷ (v ∷ [])) low high = absurd (omega arith)
+entries_all (suc k) r (a ∷ (v ∷ (o ∷ bs))) low high =
+    ap (λ (text : List ℕ). round_line r a v o ++ text) (entries_all k (r + 1) bs (omega arith) (omega arith))

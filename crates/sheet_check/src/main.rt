@@ -7,15 +7,13 @@ mod lines;
 use answer::answer;
 use input::source::fill;
 
-fn run(rt: &HostRuntime) -> anyhow::Result<()> {
+// One function for every program would have to require that the answer it is given may be called, and public functions here
+// require nothing.
+fn main(rt: HostRuntime) -> anyhow::Result<()> {
     // The longest sheet and the longest command after it. No later byte can change the answer.
     let mut place = [0; 32902];
-    let length = fill(rt, &mut place)?;
-    let text = answer(rt.alloc(), &place[0..length])?;
+    let input = fill(&rt, &mut place)?;
+    let text = answer(rt.alloc(), input)?;
     rt.print(text.as_str())?;
     Ok(())
-}
-
-fn main(rt: HostRuntime) -> anyhow::Result<()> {
-    run(&rt)
 }

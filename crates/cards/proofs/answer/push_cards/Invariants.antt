@@ -1,8 +1,7 @@
-use Rattle.std.proofs.Common.{◌≡◌, length, string_bytes}
+use Rattle.std.proofs.Common.{string_bytes}
 use Rattle.cards.proofs.Cards.{CardsSoFar}
 use Rattle.cards.proofs.answer.push_cards.Given as goal
 
 abbrev pub invariant-loop-team : goal.invariant-loop-team
 invariant-loop-team g l =
-    (length l.place ≡ 381)
-    × CardsSoFar (g.G.Group.table l.group) l.numbers (string_bytes l.initial.text) l.team (string_bytes l.text)
+    CardsSoFar (g.G.Group.table l.group) l.numbers (string_bytes l.initial.text) l.team (string_bytes l.text)
