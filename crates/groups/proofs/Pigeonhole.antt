@@ -3,7 +3,7 @@
 --     OneToOne f k       f takes no value twice below k
 --     Reaches f k v      f takes the value v below k
 use Rattle.std.proofs.Common.{◌≡◌, ℕ, zero, suc, ◌+◌, ◌-◌, ◌<◌, ◌≤◌, true, false, true≢false, Bool, [], ◌∷◌, eqb, ◌≢◌, ◌⊎◌, List, length, get_or, sym, refl, ap, ◌∙◌, subst, inl, inr, arith}
-use Rattle.std.proofs.lemmas.Bool.{cases_lt, eq-eqb, eqb-true, or_cases, or_parts, false_from_ne_true}
+use Rattle.std.proofs.lemmas.Bool.{cases_lt, cases_eq, eq-eqb, eqb-true, or_cases, or_parts, false_from_ne_true}
 use Rattle.std.proofs.lemmas.Map.Steps.{length-le_from_distinct_below}
 use Rattle.std.specs.List.{AllByRecursion, IsDistinct, list_any}
 use Rattle.groups.specs.Numbers.{Once, Different, lowest}
@@ -74,6 +74,23 @@ module _ (k m : ℕ) (R : ℕ → ℕ → Type 0) (valued : (i : ℕ) → i < k 
       let f : ℕ → ℕ = λ i. value i (cases_lt i k) in
       at_most k m f (λ i h. (value_related i h (cases_lt i k)).0)
       (λ i j x y e. apart i j (f i) x y (value_related i x (cases_lt i k)).1 (subst (R j) (sym e) (value_related j y (cases_lt j k)).1))
+
+-- a value is reached or not
+pub reaches_or_not : (f : ℕ → ℕ) (k v : ℕ) → Reaches f k v ⊎ (Reaches f k v → ⊥)
+reaches_or_not f zero v = inr (λ r. omega (arith, r.1))
+reaches_or_not f (suc k) v =
+    elim (cases_eq (f k) v) [
+      | inl e ↦ inl (k, omega arith, e)
+      | inr n ↦
+          elim (reaches_or_not f k v) [
+            | inl r ↦ inl (r.0, omega (arith, r.1), r.2)
+            | inr no_one ↦ inr (λ r.
+                elim (cases_eq r.0 k) [
+                  | inl last ↦ n (ap f (sym last) ∙ r.2)
+                  | inr other ↦ no_one (r.0, omega (arith, r.1), r.2)
+                ])
+          ]
+    ]
 
 -- k different values below k are all of them: one more would be one too many
 module _ (k : ℕ) (f : ℕ → ℕ) (within : Within f k k) (apart : OneToOne f k) (v : ℕ) (below : v < k) where
