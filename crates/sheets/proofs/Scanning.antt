@@ -192,7 +192,7 @@ module _ (bytes : List ℕ) (s : RoomSheet bytes) (r side : ℕ) (same : side �
         size = l ∙ ap (λ (x : ℕ). x + 2) size ∙ ap (λ (x : ℕ). 2 + r * (2 * x + 5) + 2) (sym same);
       }
 
-  not_short : start ≤ length bytes
+  pub not_short : start ≤ length bytes
   not_short =
       let a = round_at in
       let l = ap length a.whole ∙ length-append a.front (row s.square r 0 s.side ++ (written Close ++ a.more)) in

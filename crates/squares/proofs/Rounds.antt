@@ -98,13 +98,13 @@ module _ (g : Table) (l : Laws g) (ps : List Pair) (s : Strong g ps) (r : ℕ) (
         at_table = inr (k, h, refl, refl, teams);
       }
 
-  line_of_first : (k : ℕ) → k < length ps → (u : ℕ) → g.add (at ps k).first r ≡ u
+  pub line_of_first : (k : ℕ) → k < length ps → (u : ℕ) → g.add (at ps k).first r ≡ u
       → Line g ps u r (k + 1) (venue_of g r (at ps k)) (g.add (at ps k).second r)
   line_of_first k h u e =
       let p = s.starter.pairs k h in
       line_of_pair k h u (g.add (at ps k).second r) (inl e) (inr refl) (λ q. grind (arith, cancel_right g l r)) (grind arith)
 
-  line_of_second : (k : ℕ) → k < length ps → (u : ℕ) → g.add (at ps k).second r ≡ u
+  pub line_of_second : (k : ℕ) → k < length ps → (u : ℕ) → g.add (at ps k).second r ≡ u
       → Line g ps u r (k + 1) (venue_of g r (at ps k)) (g.add (at ps k).first r)
   line_of_second k h u e =
       let p = s.starter.pairs k h in
@@ -121,7 +121,7 @@ module _ (g : Table) (l : Laws g) (ps : List Pair) (s : Strong g ps) (r : ℕ) (
     at_table = inl (refl, which);
   }
 
-  line_of_own : Line g ps r r 0 r g.order
+  pub line_of_own : Line g ps r r 0 r g.order
   line_of_own =
       line_with_guest r g.order (inr refl) (omega arith) (λ e. omega arith) (lower_first_less r g.order hr)
       (λ k h m. (moved_team k h r m).1 refl)

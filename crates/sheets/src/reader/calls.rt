@@ -1,5 +1,5 @@
 // The questions of each command, and what is noted of it.
-ghost use Rattle.std.specs.Prelude.{◌≡◌, Bool, List, [], ◌∷◌, IfOk, Some as Answer, None as NoAnswer, MatchResult};
+ghost use Rattle.std.specs.Prelude.{◌≡◌, ◌<◌, ◌≤◌, Bool, List, [], ◌∷◌, IfOk, Some as Answer, None as NoAnswer, MatchResult};
 ghost use Rattle.sheets.specs.Judgements.{everyone, question};
 ghost use Rattle.sheets.specs.Meetings.{last_round, meetings, any, in_round};
 ghost use Rattle.sheets.specs.Tables.{Keeps};
@@ -36,6 +36,7 @@ impl Reader {
         lower: u8,
         higher: u8,
     ) -> Result<Meeting, Refusal>
+        ensures fits { IfOk result (λ m. (m.venue < current.side) × (m.lower < m.higher) × (m.higher ≤ current.side)) }
         ensures same { IfOk result (λ m. (m.round ≡ current.round) × (m.venue ≡ venue) × (m.lower ≡ lower) × (m.higher ≡ higher)) }
         ensures asked { (past : List ReadCommand) → Keeps self.now past → self.now.stage ≡ InRound current.side current.round → MatchResult result (λ _. question past (MeetingRead venue lower higher) ≡ NoAnswer) (λ q. question past (MeetingRead venue lower higher) ≡ Answer q) }
     {

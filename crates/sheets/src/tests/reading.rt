@@ -31,7 +31,7 @@ fn every_cell(rt: HostRuntime) -> Result<(), Fail> {
         for venue in 0..=255 {
             assert_eq!(rt; sheet.meeting(round, venue), expected(round, venue));
         }
-        let played = (0..255u8)
+        let played = (0..=255u8)
             .filter(|venue| sheet.meeting(round, *venue).is_some())
             .count();
         meetings = meetings.saturating_add(played);

@@ -1,4 +1,5 @@
 use Rattle.std.proofs.Common.{rules}
+use Rattle.std.proofs.lemmas.List.{take_all}
 use Rattle.starters.proofs.Claiming.{asked_differences}
 use Rattle.starters.proofs.listing.Listing.ask_differences.Goals as goal
 
@@ -6,4 +7,4 @@ pub returns : goal.returns
 returns g c =
     let it = c.args.self.now in
     asked_differences _ (g.met.G.Group.laws it.group.now) it.bytes.now it.size _ (λ j f k. search rules) c.each_once-answer.result c.map_err.result
-    c.map_err.ensures.cases it.right (search rules)
+    c.map_err.ensures.cases it.right (search (rules, take_all))
